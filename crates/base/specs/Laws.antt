@@ -1,0 +1,25 @@
+-- Laws of choices and of rows of tests that proofs cite.
+use mathlib.Core.Path.{_≡_, refl}
+use mathlib.Core.Bool.{Bool, true, false, _&&_}
+use Prim.Native.Nat.{ℕ, _≤_}
+use Rattle.base.specs.Choice.{if_then_else_}
+
+-- what both arms have, the choice has
+pub by-choice : {A : Type 0} (P : A → Type 0) (b : Bool) {x y : A} → P x → P y → P (if b then x else y)
+by-choice P true p q = p
+by-choice P false p q = q
+
+-- of two numbers within a bound the chosen one is within it
+pub choice-le : (b : Bool) {x y m : ℕ} → x ≤ m → y ≤ m → (if b then x else y) ≤ m
+choice-le true p q = p
+choice-le false p q = q
+
+-- what each arm has with the outcome of the test at hand, the choice has
+pub by-test : {A : Type 0} (P : A → Type 0) (b : Bool) {x y : A} → (b ≡ true → P x) → (b ≡ false → P y) → P (if b then x else y)
+by-test P true p q = p refl
+by-test P false p q = q refl
+
+-- where not both hold and the first does, the second does not
+pub under-and : (a b : Bool) → (a && b) ≡ false → a ≡ true → b ≡ false
+under-and true b h e = h
+under-and false b h e = cc

@@ -1,0 +1,6 @@
+pub mod Choice
+pub mod Fields
+pub mod Tests
+pub mod Laws
+pub mod Weights
+pub mod Checks

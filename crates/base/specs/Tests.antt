@@ -1,0 +1,46 @@
+-- A row of tests, all of which hold or not. The code writes `t0 & t1 & t2`, a definition `all (t0 ∷ t1 ∷ t2 ∷ [])`.
+use mathlib.Core.Path.{_≡_, refl}
+use mathlib.Core.Bool.{Bool, true, false, _&&_}
+use mathlib.Core.List.{List, [], _∷_}
+use Prim.Native.Nat.{ℕ}
+use native.Mathlib.Omega.{arith}
+
+abbrev pub row : Bool → List Bool → Bool
+row a [] = a
+row a (x ∷ xs) = row (a && x) xs
+
+abbrev pub all : List Bool → Bool
+all [] = true
+all (x ∷ xs) = row x xs
+
+-- each test of the row holds
+abbrev pub Each : List Bool → Type 0
+Each [] = Unit {0}
+Each (x ∷ xs) = (x ≡ true) × Each xs
+
+and-left : (a b : Bool) → a && b ≡ true → a ≡ true
+and-left true b h = refl
+and-left false b h = h
+
+and-right : (a b : Bool) → a && b ≡ true → b ≡ true
+and-right true b h = h
+and-right false b h = cc
+
+row-each : (a : Bool) (l : List Bool) → row a l ≡ true → (a ≡ true) × Each l
+row-each a [] h = (h, tt)
+row-each a (x ∷ xs) h = let r = row-each (a && x) xs h in (and-left a x (r .0), (and-right a x (r .0), r .1))
+
+-- where all hold, each holds
+pub each : (l : List Bool) → all l ≡ true → Each l
+each [] h = tt
+each (x ∷ xs) h = row-each x xs h
+
+each-row : (a : Bool) (l : List Bool) → a ≡ true → Each l → row a l ≡ true
+each-row a [] p q = p
+each-row true (x ∷ xs) p q = each-row x xs (q .0) (q .1)
+each-row false (x ∷ xs) p q = absurd (let z : _≡_ {A = ℕ} 0 1 = cc in omega arith)
+
+-- where each holds, all hold
+pub every : (l : List Bool) → Each l → all l ≡ true
+every [] q = refl
+every (x ∷ xs) q = each-row x xs (q .0) (q .1)

@@ -1,0 +1,129 @@
+-- Every event keeps a working board working, and a fresh board with fresh stores is one. The specification, "What is delivered"; condition 1
+-- of acceptance: what is refused leaves board record, sample memory and EEPROM as they were.
+use Prim.Native.Nat.{ℕ, _≤_}
+use mathlib.Core.Path.{_≡_, refl, sym, _∙_, subst}
+use mathlib.Core.Bool.{Bool, true, false}
+use mathlib.Core.List.{List, []}
+use native.Mathlib.Omega.{arith}
+use borrow.Author.Tests.{eqb-true, ne-eqb}
+use lib.ListN.{length}
+use lib.Dec.{eqb}
+use Rattle.base.specs.Choice.{if_then_else_}
+use Rattle.base.specs.Checks.{refusal}
+use Rattle.base.specs.Laws.{by-test}
+use Rattle.fifo.specs.Samples.{oldestOf}
+use Rattle.fifo.specs.Queue.{queue, layout, emptyFifo, WorkingFifo}
+use Rattle.fifo.specs.Queue.Laws.{queue-push, push-works, queue-pop, pop-works, queue-clear, clear-works}
+use Rattle.fifo.specs.declared.Fifo.{Fifo}
+use Rattle.converter.specs.Working.{ended-works}
+use Rattle.calibration.specs.Laws as calibration
+use Rattle.calibration.specs.Transfers.{eepromEnded}
+use Rattle.machine.specs.Fresh.{freshBoard}
+use Rattle.machine.specs.Working.{WorkingMachine}
+use Rattle.machine.specs.Kept.{converter-kept, calibration-kept, same-working, ticked-works, din-works, latch-works, port-works, fresh-working}
+use Rattle.machine.specs.declared.Board.{Board}
+use Rattle.machine.specs.declared.Jumpers.{Jumpers}
+use Rattle.bus.specs.Place.{placeOf}
+use Rattle.bus.specs.Kept.{written-works, read-works}
+use Rattle.bus.specs.declared.Effect.{Effect}
+use Rattle.bus.specs.declared.Effect.the-variants.{Keep, Take, Store, Empty}
+use Rattle.board.specs.Working.{WorkingBoard}
+use Rattle.board.specs.Refusals.{eventChecks, checks}
+use Rattle.board.specs.Passed.{Passed, passed, din-in-range}
+use Rattle.board.specs.Act.{acted, eepromActed}
+use Rattle.board.specs.Step.{samplesAfter, fifoAfter, ran, ranFrom, number, refusedBy, stepOf, memoryAfter, eepromAfter}
+use Rattle.board.specs.declared.Outcome.{Outcome}
+use Rattle.board.specs.declared.Event.{Event}
+use Rattle.board.specs.declared.Event.the-variants.{WriteByte, ReadByte, ReadWord, ConversionEnd, DinPins, LatchLevel, PortPins, Tick, TransferEnd}
+
+-- ---- the record
+pub acted-works : (b : Board) (o : ℕ) (e : List ℕ) (ev : Event) → WorkingMachine b → refusal (eventChecks b ev) ≡ 0
+    → WorkingMachine (acted b o e ev .board)
+unfolding acted
+acted-works b o e (WriteByte n v) w h = written-works b (placeOf (b .registers .page) n) v w
+acted-works b o e (ReadByte n) w h = read-works b (placeOf (b .registers .page) n) w
+acted-works b o e (ReadWord n) w h = w
+acted-works b o e (ConversionEnd code) w h =
+    same-working _ _ (converter-kept b w _ (ended-works (b .converter) (w .converter))) (w .din) refl refl refl refl refl refl refl
+acted-works b o e (DinPins d) w h = din-works b (d .lines) (din-in-range b d h) w
+acted-works b o e (LatchLevel high) w h = latch-works b high w
+acted-works b o e (PortPins q v) w h = port-works b q v w
+acted-works b o e Tick w h = ticked-works b w
+acted-works b o e TransferEnd w h = calibration-kept b w _ (calibration.ended-works (b .calibration) e (w .calibration))
+
+-- ---- the sample memory
+module _ (f : Fifo) (m : List ℕ) (w : WorkingFifo f m) where
+  effect-works : (x : Effect) → WorkingFifo (fifoAfter x f) (layout (fifoAfter x f) (samplesAfter x (queue f m)))
+  effect-works Keep = subst (λ (l : List ℕ). WorkingFifo f l) (w .laid) w
+  effect-works Take = pop-works f m w
+  effect-works (Store s) = push-works f m s w
+  effect-works Empty = clear-works
+
+  -- what the memory then holds is what the definition says
+  effect-holds : (x : Effect) → queue (fifoAfter x f) (layout (fifoAfter x f) (samplesAfter x (queue f m))) ≡ samplesAfter x (queue f m)
+  effect-holds Keep = rw (sym (w .laid))
+  effect-holds Take = queue-pop f m w
+  effect-holds (Store s) = queue-push f m s w
+  effect-holds Empty = queue-clear
+
+-- ---- an event that is not refused
+pub ran-works : (b : Board) (m e : List ℕ) (ev : Event) → Passed b m e ev
+    → WorkingBoard (ranFrom b m e ev .board) (layout (ranFrom b m e ev .board .fifo) (ranFrom b m e ev .samples))
+unfolding ran
+ran-works b m e ev p =
+    let a = acted b (oldestOf (queue (b .fifo) m)) e ev in
+    let w = acted-works b (oldestOf (queue (b .fifo) m)) e ev (p .works .machine) (p .event) in
+    record {
+      machine = same-working (a .board) _ w (w .din) refl refl refl refl refl refl refl;
+      fifo = effect-works (b .fifo) m (p .works .fifo) (a .effect);
+    }
+
+pub ran-holds : (b : Board) (m e : List ℕ) (ev : Event) → Passed b m e ev
+    → queue (ranFrom b m e ev .board .fifo) (layout (ranFrom b m e ev .board .fifo) (ranFrom b m e ev .samples)) ≡ ranFrom b m e ev .samples
+unfolding ran
+ran-holds b m e ev p = effect-holds (b .fifo) m (p .works .fifo) (acted b (oldestOf (queue (b .fifo) m)) e ev .effect)
+
+eeprom-long : (b : Board) (e : List ℕ) (ev : Event) → length (eepromActed b e ev) ≡ length e
+unfolding eepromActed
+eeprom-long b e (WriteByte n v) = refl
+eeprom-long b e (ReadByte n) = refl
+eeprom-long b e (ReadWord n) = refl
+eeprom-long b e (ConversionEnd code) = refl
+eeprom-long b e (DinPins d) = refl
+eeprom-long b e (LatchLevel high) = refl
+eeprom-long b e (PortPins q v) = refl
+eeprom-long b e Tick = refl
+eeprom-long b e TransferEnd = calibration.eeprom-length (b .calibration) e
+
+-- ---- any event
+module _ (b : Board) (m e : List ℕ) (ev : Event) where
+  -- a working board stays working, and its EEPROM keeps its length
+  pub step-kept : WorkingBoard b m → WorkingBoard (stepOf b m e ev .board) (memoryAfter b m e ev)
+  unfolding stepOf memoryAfter
+  step-kept w = by (eqb (number b m e ev) 0) refl
+    where
+      by : (t : Bool) → eqb (number b m e ev) 0 ≡ t
+          → WorkingBoard ((if t then record { board = ranFrom b m e ev .board; answer = ranFrom b m e ev .answer } else refusedBy b (number b m e ev)) .board)
+          (if t then layout (ranFrom b m e ev .board .fifo) (ranFrom b m e ev .samples) else m)
+      by true h = ran-works b m e ev (passed b m e ev (eqb-true _ _ h))
+      by false h = w
+
+  pub eeprom-kept : length (eepromAfter b m e ev) ≡ length e
+  unfolding eepromAfter ran
+  eeprom-kept = by (eqb (number b m e ev) 0)
+    where
+      by : (t : Bool) → length (if t then ranFrom b m e ev .eeprom else e) ≡ length e
+      by true = eeprom-long b e ev
+      by false = refl
+
+  -- what is refused changes nothing: the record, the sample memory and the EEPROM are as they were
+  pub refused-unchanged : (number b m e ev ≡ 0 → ⊥)
+      → (stepOf b m e ev ≡ refusedBy b (number b m e ev)) × (memoryAfter b m e ev ≡ m) × (eepromAfter b m e ev ≡ e)
+  unfolding stepOf memoryAfter eepromAfter
+  refused-unchanged h =
+      let t : eqb (number b m e ev) 0 ≡ false = ne-eqb _ _ h in
+      (rw t, rw t, rw t)
+
+-- ---- the fresh board with fresh stores
+pub fresh-works : (j : Jumpers) (zeroscale : Bool) → WorkingBoard (freshBoard j zeroscale) (layout emptyFifo [])
+fresh-works j zeroscale = record { machine = fresh-working j zeroscale; fifo = clear-works }

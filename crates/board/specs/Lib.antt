@@ -1,0 +1,11 @@
+pub mod Act
+pub mod Refusals
+pub mod Working
+pub mod Step
+pub mod Stores
+pub mod Passed
+pub mod Kept
+pub mod Held
+pub mod Begins
+pub mod Conversions
+pub mod Order

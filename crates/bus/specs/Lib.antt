@@ -1,0 +1,5 @@
+pub mod Place
+pub mod Read
+pub mod Write
+pub mod Refusals
+pub mod Kept

@@ -1,0 +1,4 @@
+pub mod Transfers
+pub mod Registers
+pub mod Working
+pub mod Laws

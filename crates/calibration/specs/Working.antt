@@ -1,0 +1,18 @@
+-- A working board's calibration: the address has seven bits, and the transfer is a known number. Register 12 and the TrimDAC's
+-- eight values are any bytes. The facts, and the row of tests that the code makes of them.
+use mathlib.Core.Bool.{Bool}
+use mathlib.Core.List.{List, [], _∷_}
+use Prim.Native.Nat.{ℕ, _≤_}
+use lib.Dec.{leb}
+use Rattle.base.specs.Tests.{all}
+use Rattle.calibration.specs.declared.Calibration.{Calibration}
+
+pub record WorkingCalibration (c : Calibration) : Type 0 where
+  pub address : c .address ≤ 127
+  pub transfer : c .transfer ≤ 4
+
+abbrev pub calibrationTests : Calibration → List Bool
+calibrationTests c = leb (c .address) 127 ∷ leb (c .transfer) 4 ∷ []
+
+abbrev pub calibrationWorks : Calibration → Bool
+calibrationWorks c = all (calibrationTests c)

@@ -1,0 +1,4 @@
+pub mod Output
+pub mod Nearest
+pub mod Plain
+pub mod Marked

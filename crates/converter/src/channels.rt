@@ -1,0 +1,166 @@
+// Channels, triggers and ends of conversions (manual 10.1, 11.3, 11.4, Base + 0, 2, 3, 7, 8, 9).
+ghost use mathlib.Core.Path.{_≡_};
+ghost use Prim.Native.Nat.{_+_, _%_};
+ghost use Rattle.converter.specs.Channels.{nextChannel, started, triggered, softwareTriggered, clockTriggered, ended, isLast};
+ghost use Rattle.converter.specs.Registers.{writtenLow, writtenHigh, writtenScanen, writtenClken, statusBits, freshConverter};
+ghost use Rattle.converter.specs.Working.{isWorking};
+
+#[repr(C)]
+pub struct Converter {
+    pub low: u8,
+    pub high: u8,
+    pub selected: u8,
+    pub channel: u8,
+    pub converting: bool,
+    pub scanen: bool,
+    pub clken: bool,
+}
+
+// The channel that is selected after `selected`: high goes to low, else one up, 31 to 0.
+pub fn next_channel(low: u8, high: u8, selected: u8) -> u8
+    ensures { λ r. ⌜ r ≡ nextChannel low high selected ⌝ }
+{
+    if selected == high {
+        low
+    } else if selected >= 31 {
+        0
+    } else {
+        selected + 1
+    }
+}
+
+// A conversion of the selected channel starts, and the selection moves.
+pub fn start(c: Converter) -> Converter
+    ensures { λ r. ⌜ r ≡ started c ⌝ }
+{
+    let mut next = c;
+    next.channel = c.selected;
+    next.selected = next_channel(c.low, c.high, c.selected);
+    next.converting = true;
+    next
+}
+
+// A trigger, where there is one: it starts a conversion unless one runs.
+pub fn trigger(c: Converter, triggers: bool) -> Converter
+    ensures { λ r. ⌜ r ≡ triggered c triggers ⌝ }
+{
+    if triggers & !c.converting {
+        start(c)
+    } else {
+        c
+    }
+}
+
+// A write of 0: a trigger, ignored while CLKEN is set.
+pub fn software_trigger(c: Converter) -> Converter
+    ensures { λ r. ⌜ r ≡ softwareTriggered c ⌝ }
+{
+    trigger(c, !c.clken)
+}
+
+// The hardware clock: with CLKEN a fall of OUT2 (CLKSEL set) or of DIN3 (clear) is a trigger; `stopped` says that GT12EN is set with DIN2 low.
+pub fn clock_trigger(c: Converter, clksel: bool, out2: bool, din3: bool, stopped: bool) -> Converter
+    ensures { λ r. ⌜ r ≡ clockTriggered c clksel out2 din3 stopped ⌝ }
+{
+    trigger(c, c.clken & ((clksel & out2) | (!clksel & din3 & !stopped)))
+}
+
+// A conversion ends: with SCANEN, and a channel that is not the high one, the next of the scan starts; otherwise none runs.
+pub fn end(c: Converter) -> Converter
+    ensures { λ r. ⌜ r ≡ ended c ⌝ }
+{
+    if c.scanen & (c.channel != c.high) {
+        return start(c);
+    }
+    let mut next = c;
+    next.converting = false;
+    next
+}
+
+// Whether an end now is a single one or the last of its scan.
+pub fn is_last(c: Converter) -> bool
+    ensures { λ r. ⌜ r ≡ isLast c ⌝ }
+{
+    !(c.scanen & (c.channel != c.high))
+}
+
+// A write of 2: the low channel, which becomes the selected one.
+pub fn write_low(c: Converter, byte: u8) -> Converter
+    ensures { λ r. ⌜ r ≡ writtenLow c byte ⌝ }
+{
+    let mut next = c;
+    next.low = byte % 32;
+    next.selected = byte % 32;
+    next
+}
+
+// A write of 3: the high channel; low becomes the selected one.
+pub fn write_high(c: Converter, byte: u8) -> Converter
+    ensures { λ r. ⌜ r ≡ writtenHigh c byte ⌝ }
+{
+    let mut next = c;
+    next.high = byte % 32;
+    next.selected = c.low;
+    next
+}
+
+// A write of 7: SCANEN.
+pub fn write_scanen(c: Converter, byte: u8) -> Converter
+    ensures { λ r. ⌜ r ≡ writtenScanen c byte ⌝ }
+{
+    let mut next = c;
+    next.scanen = byte / 4 % 2 == 1;
+    next
+}
+
+// A write of 9: CLKEN.
+pub fn write_clken(c: Converter, byte: u8) -> Converter
+    ensures { λ r. ⌜ r ≡ writtenClken c byte ⌝ }
+{
+    let mut next = c;
+    next.clken = byte / 2 % 2 == 1;
+    next
+}
+
+// The byte read at 2.
+pub fn read_low(c: Converter) -> u8
+    ensures { λ r. ⌜ r ≡ c .low ⌝ }
+{
+    c.low
+}
+
+// The byte read at 3.
+pub fn read_high(c: Converter) -> u8
+    ensures { λ r. ⌜ r ≡ c .high ⌝ }
+{
+    c.high
+}
+
+// STS and the selected channel as they stand in the byte read at 8.
+pub fn status_bits(c: Converter) -> u8
+    ensures { λ r. ⌜ r ≡ statusBits c ⌝ }
+{
+    base::weight(c.converting, 128) + c.selected % 32
+}
+
+// A fresh board's record, and any board's after RESETA or RESETD.
+pub fn fresh_converter() -> Converter
+    ensures { λ r. ⌜ r ≡ freshConverter ⌝ }
+{
+    Converter {
+        low: 0,
+        high: 0,
+        selected: 0,
+        channel: 0,
+        converting: false,
+        scanen: false,
+        clken: false,
+    }
+}
+
+// Whether every channel is one of the 32.
+pub fn is_working(c: Converter) -> bool
+    ensures { λ r. ⌜ r ≡ isWorking c ⌝ }
+{
+    (c.low <= 31) & (c.high <= 31) & (c.selected <= 31) & (c.channel <= 31)
+}

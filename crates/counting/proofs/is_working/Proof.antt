@@ -1,0 +1,15 @@
+-- `counting::is_working` meets its contract. Assumes nothing.
+use borrow.Author.Needs.{needs}
+use Rattle.counting.proofs.is_working.Statement.{statement}
+use Rattle.counting.proofs.is_working.Tie as tie
+
+pub is-working-spec : {M : Type 1} → statement M
+is-working-spec =
+    tie.close
+    (tie.spec
+    (λ c κs. search needs)
+    (λ c. search needs)
+    (λ c. search needs)
+    (λ c κs. search needs)
+    (λ c. simp (rw (c .before .before .before .before .setup-of .ensures) at (c .before .before .enum-told .given .1)))
+    (λ c. simp (c .before .from-two .ensures, rw (c .before .before .before .before .before .before .setup-of .ensures) at (c .before .before .before .before .m .given .1))))

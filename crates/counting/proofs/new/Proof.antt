@@ -1,0 +1,11 @@
+-- `counting::new` meets its contract. Assumes nothing.
+use borrow.Author.Needs.{needs}
+use Rattle.counting.proofs.new.Statement.{statement}
+use Rattle.counting.proofs.new.Tie as tie
+
+pub new-spec : {M : Type 1} → statement M
+new-spec =
+    tie.close
+    (tie.spec
+    (λ c κs. search needs)
+    (λ c. simp (c .none .ensures)))

@@ -1,0 +1,12 @@
+-- `counting::program` meets its contract. Assumes nothing.
+use borrow.Author.Needs.{needs}
+use Rattle.counting.proofs.program.Statement.{statement}
+use Rattle.counting.proofs.program.Tie as tie
+
+pub program-spec : {M : Type 1} → statement M
+program-spec =
+    tie.close
+    (tie.spec
+    (λ c κs. search needs)
+    (λ c κs. search needs)
+    (λ c. simp (c .none .ensures, c .before .first-count .ensures)))

@@ -1,0 +1,12 @@
+-- `counting::write_piece` meets its contract. Assumes nothing.
+use borrow.Author.Needs.{needs}
+use Rattle.counting.proofs.write_piece.Statement.{statement}
+use Rattle.counting.proofs.write_piece.Tie as tie
+
+pub write-piece-spec : {M : Type 1} → statement M
+write-piece-spec =
+    tie.close
+    (tie.spec
+    (λ c κs. search needs)
+    (λ c κs. search needs)
+    (λ c. simp (c .after-write .ensures, c .before .take-piece .ensures)))

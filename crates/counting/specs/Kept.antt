@@ -1,0 +1,135 @@
+-- Each event of a counter keeps a working counter working, and a fresh one is. The specification, "What is delivered".
+use Prim.Native.Nat.{ℕ, _<_, _/_, _%_}
+use mathlib.Core.Path.{_≡_, refl, ap, sym, _∙_, subst⁻¹}
+use mathlib.Core.Bool.{Bool, true, false, _&&_}
+use native.Mathlib.Omega.{arith}
+use borrow.Author.Tests.{eqb-false}
+use lib.Dec.{eqb}
+use Rattle.base.specs.Choice.{if_then_else_}
+use Rattle.base.specs.Laws.{by-choice, by-test, under-and}
+use Rattle.counting.specs.Modes.{fromTwo}
+use Rattle.counting.specs.Control.{command, setupOf}
+use Rattle.counting.specs.Element.{firstCount, pieceTaken, pulseLoads, pulseCounts, pulseTaken, countedBy}
+use Rattle.counting.specs.Bytes.{pieceOf}
+use Rattle.counting.specs.Counter.{unprogrammed, programmed, latchedAs, commandedBy, commanded, pulsedAs, pulsed, gateMovedAs, gateMoved}
+use Rattle.counting.specs.Counter.{counterReadAs, counterRead, pieceRefused, pieceWritten, offered, byteWrittenAs, byteWritten}
+use Rattle.counting.specs.Working.{Facts, Working}
+use Rattle.counting.specs.declared.Mode.{Mode}
+use Rattle.counting.specs.declared.Mode.the-variants.{TerminalCount, RateGenerator}
+use Rattle.counting.specs.declared.Format.{Format}
+use Rattle.counting.specs.declared.Command.{Command}
+use Rattle.counting.specs.declared.Command.the-variants.{LatchCount, Program, NotModelled}
+use Rattle.counting.specs.declared.Setup.{Setup}
+use Rattle.counting.specs.declared.Setup.the-variants.{Unprogrammed, Programmed}
+use Rattle.counting.specs.declared.Piece.{Piece}
+use Rattle.counting.specs.declared.Piece.the-variants.{First, Whole}
+use Rattle.counting.specs.declared.Count.{Count}
+use Rattle.counting.specs.declared.Counter.{Counter}
+
+-- what keeps the six control bits is judged by the same set-up
+same-setup : (c d : Counter) {s : Setup} → setupOf (c .control) ≡ s → d .control ≡ c .control → Facts s d → Working d
+same-setup c d e f w = record { facts = subst⁻¹ (λ (x : Setup). Facts x d) (ap setupOf f ∙ e) w }
+
+facts-at : (c : Counter) {s : Setup} → setupOf (c .control) ≡ s → Working c → Facts s c
+facts-at c e w = rw e at (w .facts)
+
+-- ---- the fresh counter, and a control word
+pub unprogrammed-working : Working unprogrammed
+unfolding setupOf command
+unprogrammed-working = record { facts = (refl, refl) }
+
+-- the six bits below SC are those of the whole control word
+rw-mod : (w : ℕ) → w % 64 / 16 % 4 ≡ w / 16 % 4
+rw-mod w = omega arith
+
+m-mod : (w : ℕ) → w % 64 / 2 % 8 ≡ w / 2 % 8
+m-mod w = omega arith
+
+bcd-mod : (w : ℕ) → w % 64 / 1 % 2 ≡ w / 1 % 2
+bcd-mod w = omega arith
+
+command-mod : (w : ℕ) → command (w % 64) ≡ command w
+unfolding command
+command-mod w = simp (rw-mod, m-mod, bcd-mod)
+
+setup-programmed : (w : ℕ) (f : Format) (m : Mode) → command w ≡ Program f m → setupOf (w % 64) ≡ Programmed f m
+unfolding setupOf
+setup-programmed w f m e = rw (command-mod w, e)
+
+programmed-working : (w : ℕ) (f : Format) (m : Mode) → command w ≡ Program f m → Working (programmed w m)
+programmed-working w f m e =
+    record {
+      facts = subst⁻¹ (λ (x : Setup). Facts x (programmed w m)) (setup-programmed w f m e) (omega arith, λ t o. omega arith);
+    }
+
+latched-working : (c : Counter) → Working c → Working (latchedAs (setupOf (c .control)) c)
+latched-working c w = go (setupOf (c .control)) refl
+  where
+    go : (s : Setup) → setupOf (c .control) ≡ s → Working (latchedAs s c)
+    go Unprogrammed e = w
+    go (Programmed f m) e = same-setup c (latchedAs (Programmed f m) c) e refl (facts-at c e w)
+
+pub commanded-working : (c : Counter) (w : ℕ) → Working c → Working (commanded c w)
+unfolding commanded
+commanded-working c w k = go (command w) refl
+  where
+    go : (o : Command) → command w ≡ o → Working (commandedBy o c w)
+    go LatchCount e = latched-working c k
+    go (Program f m) e = programmed-working w f m e
+    go NotModelled e = k
+
+-- ---- a pulse leaves the count to load
+register-counted : (m : Mode) (k : Count) → countedBy m k .register ≡ k .register
+unfolding countedBy
+register-counted TerminalCount k = refl
+register-counted RateGenerator k = by-choice (λ (n : Count). n .register ≡ k .register) (eqb (k .element) 1) refl refl
+
+register-pulsed : (m : Mode) (gate trigger half : Bool) (k : Count) → pulseTaken m gate trigger half k .register ≡ k .register
+register-pulsed m gate trigger half k =
+    let P : Count → Type 0 = λ (n : Count). n .register ≡ k .register in
+    by-choice P (pulseLoads m trigger k) refl (by-choice P (pulseCounts m gate half k) (register-counted m k) refl)
+
+pub pulsed-working : (c : Counter) (gate : Bool) → Working c → Working (pulsed c gate)
+unfolding pulsed
+pulsed-working c gate w = go (setupOf (c .control)) refl
+  where
+    go : (s : Setup) → setupOf (c .control) ≡ s → Working (pulsedAs s c gate)
+    go Unprogrammed e = w
+    go (Programmed f m) e =
+        let a = facts-at c e w in
+        same-setup c (pulsedAs (Programmed f m) c gate) e refl
+        (a .0, λ t o. a .1 t (sym (register-pulsed m gate (c .trigger) (c .bus .halfwritten) (c .count)) ∙ o))
+
+pub gate-working : (c : Counter) (was is : Bool) → Working c → Working (gateMoved c was is)
+unfolding gateMoved
+gate-working c was is w = go (setupOf (c .control)) refl
+  where
+    go : (s : Setup) → setupOf (c .control) ≡ s → Working (gateMovedAs s c was is)
+    go Unprogrammed e = w
+    go (Programmed f m) e = same-setup c (gateMovedAs (Programmed f m) c was is) e refl (facts-at c e w)
+
+pub read-working : (c : Counter) → Working c → Working (counterRead c .counter)
+unfolding counterRead
+read-working c w = go (setupOf (c .control)) refl
+  where
+    go : (s : Setup) → setupOf (c .control) ≡ s → Working (counterReadAs s c .counter)
+    go Unprogrammed e = w
+    go (Programmed f m) e = same-setup c (counterReadAs (Programmed f m) c .counter) e refl (facts-at c e w)
+
+-- ---- a written count is not 1 in mode 2
+not-one : (m : Mode) (k : Count) (q : Piece) → pieceRefused m q ≡ false → (fromTwo m ≡ true → k .register ≡ 1 → ⊥) →
+    fromTwo m ≡ true → pieceTaken m k q .register ≡ 1 → ⊥
+not-one m k (First b) r w = w
+not-one m k (Whole n) r w = λ t. eqb-false _ _ (under-and (fromTwo m) (eqb n 1) r t)
+
+pub written-working : (c : Counter) (b : ℕ) → Working c → Working (byteWritten c b)
+unfolding byteWritten
+written-working c b w = go (setupOf (c .control)) refl
+  where
+    go : (s : Setup) → setupOf (c .control) ≡ s → Working (byteWrittenAs s c b)
+    go Unprogrammed e = w
+    go (Programmed f m) e =
+        let q = pieceOf f (c .bus) b in
+        let a = facts-at c e w in
+        by-test Working (pieceRefused m q) {x = c} {y = pieceWritten m c q} (λ t. w)
+        (λ t. same-setup c (pieceWritten m c q) e refl (a .0, not-one m (c .count) q t (a .1)))

@@ -1,0 +1,9 @@
+pub mod Modes
+pub mod Control
+pub mod Element
+pub mod Bytes
+pub mod Counter
+pub mod Working
+pub mod Kept
+pub mod Edges
+pub mod Marked

@@ -1,0 +1,58 @@
+-- A working board's counter. The specification, "What is delivered": "Every register, channel, port, counter and divider is within its
+-- width or range ...; no mode 2 counter has 1 to load, and an unprogrammed counter's OUT is high."
+use Prim.Native.Nat.{ℕ, _<_}
+use mathlib.Core.Path.{_≡_, refl, sym}
+use mathlib.Core.Bool.{Bool, true, false, not, _&&_}
+use mathlib.Core.List.{List, [], _∷_}
+use borrow.Author.Tests.{eqb-true, eqb-false, eq-eqb, ne-eqb, ltb-true, lt-ltb}
+use lib.Dec.{eqb, ltb}
+use Rattle.base.specs.Tests.{all, each, every}
+use Rattle.counting.specs.Modes.{fromTwo}
+use Rattle.counting.specs.Control.{setupOf}
+use Rattle.counting.specs.declared.Setup.{Setup}
+use Rattle.counting.specs.declared.Setup.the-variants.{Unprogrammed, Programmed}
+use Rattle.counting.specs.declared.Counter.{Counter}
+
+-- the facts, by what the six control bits set up: 0 or a control word that programs a counter
+abbrev pub Facts : Setup → Counter → Type 0
+Facts Unprogrammed c = (c .control ≡ 0) × (c .count .out ≡ true)
+Facts (Programmed f m) c = (c .control < 64) × (fromTwo m ≡ true → c .count .register ≡ 1 → ⊥)
+
+pub record Working (c : Counter) : Type 0 where
+  pub facts : Facts (setupOf (c .control)) c
+
+-- the test that the code makes
+abbrev pub tests : Setup → Counter → List Bool
+tests Unprogrammed c = eqb (c .control) 0 ∷ c .count .out ∷ []
+tests (Programmed f m) c = ltb (c .control) 64 ∷ not (fromTwo m && eqb (c .count .register) 1) ∷ []
+
+abbrev pub working : Counter → Bool
+working c = all (tests (setupOf (c .control)) c)
+
+-- ---- the test holds where the facts do, and only there
+not-both : (a b : Bool) → not (a && b) ≡ true → a ≡ true → b ≡ false
+not-both true true h e = sym h
+not-both true false h e = refl
+not-both false b h e = cc
+
+both-not : (a b : Bool) → (a ≡ true → b ≡ false) → not (a && b) ≡ true
+both-not true b h = rw (h refl)
+both-not false b h = refl
+
+facts-of : (s : Setup) (c : Counter) → all (tests s c) ≡ true → Facts s c
+facts-of Unprogrammed c h = let e = each (tests Unprogrammed c) h in (eqb-true _ _ (e .0), e .1 .0)
+facts-of (Programmed f m) c h =
+    let e = each (tests (Programmed f m) c) h in
+    (ltb-true _ _ (e .0), λ t. eqb-false _ _ (not-both (fromTwo m) (eqb (c .count .register) 1) (e .1 .0) t))
+
+facts-to : (s : Setup) (c : Counter) → Facts s c → all (tests s c) ≡ true
+facts-to Unprogrammed c w = every (tests Unprogrammed c) (eq-eqb _ _ (w .0), (w .1, tt))
+facts-to (Programmed f m) c w =
+    every (tests (Programmed f m) c)
+    (lt-ltb _ _ (w .0), (both-not (fromTwo m) (eqb (c .count .register) 1) (λ t. ne-eqb _ _ (w .1 t)), tt))
+
+pub working-of : (c : Counter) → working c ≡ true → Working c
+working-of c h = record { facts = facts-of (setupOf (c .control)) c h }
+
+pub working-to : (c : Counter) → Working c → working c ≡ true
+working-to c w = facts-to (setupOf (c .control)) c (w .facts)

@@ -1,0 +1,268 @@
+// One counter of the 82C54 (manual, chapter 19: the data sheet), modes 0 and 2, binary. Each event is a function on a counter by
+// value, total over any record, and its contract is a definition of specs/Counter.antt.
+mod bytes;
+mod control;
+mod element;
+mod modes;
+
+ghost use mathlib.Core.Path.{_≡_};
+ghost use Rattle.counting.specs.Control.{wordRefused, setupOf};
+ghost use Rattle.counting.specs.Counter.{unprogrammed, programmed, latchedAs, commanded, pulsed, gateMoved, counterRead};
+ghost use Rattle.counting.specs.Counter.{pieceRefused, byteRefused, pieceWritten, offered, byteWritten};
+ghost use Rattle.counting.specs.Working.{working};
+
+pub enum Mode {
+    TerminalCount,
+    RateGenerator,
+}
+
+// How the bytes of a count come and go.
+pub enum Format {
+    LeastByte,
+    MostByte,
+    TwoBytes,
+}
+
+// What a control word asks of its counter.
+pub enum Command {
+    LatchCount,
+    Program(Format, Mode),
+    NotModelled,
+}
+
+pub enum Setup {
+    Unprogrammed,
+    Programmed(Format, Mode),
+}
+
+// A written byte: the first of two, or what makes a whole count.
+pub enum Piece {
+    First(u8),
+    Whole(u16),
+}
+
+// The count register CR, the counting element CE and OUT.
+#[repr(C)]
+pub struct Count {
+    pub register: u16,
+    pub element: u16,
+    pub out: bool,
+    // a whole count is to be loaded on the next CLK pulse
+    pub waiting: bool,
+    // a count was loaded since the control word
+    pub loaded: bool,
+}
+
+// The output latch OL, and which byte comes next.
+#[repr(C)]
+pub struct Bus {
+    pub latch: u16,
+    pub latched: bool,
+    // the next byte that is read is the most significant one of two
+    pub halfread: bool,
+    // the least significant byte of two that was written
+    pub first: u8,
+    pub halfwritten: bool,
+}
+
+#[repr(C)]
+pub struct Counter {
+    // the control word's six bits below SC as written; 0: unprogrammed
+    pub control: u8,
+    // the flip-flop that a rising GATE sets
+    pub trigger: bool,
+    pub count: Count,
+    pub bus: Bus,
+}
+
+// The byte that a read gives, and the counter after it.
+pub struct CounterRead {
+    pub byte: u8,
+    pub counter: Counter,
+}
+
+// A counter before its first control word.
+pub fn new() -> Counter
+    ensures { λ r. ⌜ r ≡ unprogrammed ⌝ }
+{
+    Counter {
+        control: 0,
+        trigger: false,
+        count: Count {
+            register: 0,
+            element: 0,
+            out: true,
+            waiting: false,
+            loaded: false,
+        },
+        bus: bytes::none(),
+    }
+}
+
+fn program(word: u8, m: Mode) -> Counter
+    ensures { λ r. ⌜ r ≡ programmed word m ⌝ }
+{
+    Counter {
+        control: word % 64,
+        trigger: false,
+        count: element::first_count(m),
+        bus: bytes::none(),
+    }
+}
+
+fn latch(c: Counter) -> Counter
+    ensures { λ r. ⌜ r ≡ latchedAs (setupOf (c .control)) c ⌝ }
+{
+    match control::setup_of(c.control) {
+        Setup::Unprogrammed => c,
+        Setup::Programmed(_, _) => {
+            let s = c.bus;
+            let mut d = c;
+            d.bus = bytes::take_latch(s, c.count.element);
+            d
+        }
+    }
+}
+
+// Whether a control word, whatever counter it selects, is refused.
+pub fn refuses_word(word: u8) -> bool
+    ensures { λ r. ⌜ r ≡ wordRefused word ⌝ }
+{
+    match control::command_of(word) {
+        Command::LatchCount => false,
+        Command::Program(_, _) => false,
+        Command::NotModelled => true,
+    }
+}
+
+// A control word for this counter: it latches the count or programs the counter. A refused one leaves the counter.
+pub fn write_word(c: Counter, word: u8) -> Counter
+    ensures { λ r. ⌜ r ≡ commanded c word ⌝ }
+{
+    match control::command_of(word) {
+        Command::LatchCount => latch(c),
+        Command::Program(_, m) => program(word, m),
+        Command::NotModelled => c,
+    }
+}
+
+// One CLK pulse at a GATE level.
+pub fn pulse(c: Counter, gate: bool) -> Counter
+    ensures { λ r. ⌜ r ≡ pulsed c gate ⌝ }
+{
+    match control::setup_of(c.control) {
+        Setup::Unprogrammed => c,
+        Setup::Programmed(_, m) => {
+            let k = c.count;
+            let mut d = c;
+            d.count = element::take_pulse(m, gate, c.trigger, c.bus.halfwritten, k);
+            d.trigger = false;
+            d
+        }
+    }
+}
+
+// GATE goes from `was` to `is`.
+pub fn move_gate(c: Counter, was: bool, is: bool) -> Counter
+    ensures { λ r. ⌜ r ≡ gateMoved c was is ⌝ }
+{
+    match control::setup_of(c.control) {
+        Setup::Unprogrammed => c,
+        Setup::Programmed(_, m) => {
+            let k = c.count;
+            let trigger = c.trigger | modes::trigger_loads(m) & (!was & is);
+            let mut d = c;
+            d.count = element::see_gate(m, was, is, k);
+            d.trigger = trigger;
+            d
+        }
+    }
+}
+
+// A read of the counter.
+pub fn read(c: Counter) -> CounterRead
+    ensures { λ r. ⌜ r ≡ counterRead c ⌝ }
+{
+    match control::setup_of(c.control) {
+        Setup::Unprogrammed => CounterRead {
+            byte: 0,
+            counter: c,
+        },
+        Setup::Programmed(f, _) => {
+            let s = c.bus;
+            let mut d = c;
+            d.bus = bytes::after_read(f, s);
+            CounterRead {
+                byte: bytes::byte_shown(f, s.halfread, bytes::shown_count(s, c.count.element)),
+                counter: d,
+            }
+        }
+    }
+}
+
+fn refuses_piece(m: Mode, q: Piece) -> bool
+    ensures { λ r. ⌜ r ≡ pieceRefused m q ⌝ }
+{
+    match q {
+        Piece::First(_) => false,
+        Piece::Whole(n) => modes::from_two(m) & (n == 1),
+    }
+}
+
+// Whether a byte of a count is refused.
+pub fn refuses_byte(c: Counter, byte: u8) -> bool
+    ensures { λ r. ⌜ r ≡ byteRefused c byte ⌝ }
+{
+    match control::setup_of(c.control) {
+        Setup::Unprogrammed => true,
+        Setup::Programmed(f, m) => {
+            let s = c.bus;
+            refuses_piece(m, bytes::piece_of(f, s, byte))
+        }
+    }
+}
+
+fn write_piece(m: Mode, c: Counter, q: Piece) -> Counter
+    ensures { λ r. ⌜ r ≡ pieceWritten m c q ⌝ }
+{
+    let k = c.count;
+    let s = c.bus;
+    let mut d = c;
+    d.count = element::take_piece(m, k, q);
+    d.bus = bytes::after_write(s, q);
+    d
+}
+
+fn offer(m: Mode, c: Counter, q: Piece) -> Counter
+    ensures { λ r. ⌜ r ≡ offered m c q ⌝ }
+{
+    if refuses_piece(m, q) {
+        c
+    } else {
+        write_piece(m, c, q)
+    }
+}
+
+// A written byte of a count. A refused one leaves the counter.
+pub fn write_byte(c: Counter, byte: u8) -> Counter
+    ensures { λ r. ⌜ r ≡ byteWritten c byte ⌝ }
+{
+    match control::setup_of(c.control) {
+        Setup::Unprogrammed => c,
+        Setup::Programmed(f, m) => {
+            let s = c.bus;
+            offer(m, c, bytes::piece_of(f, s, byte))
+        }
+    }
+}
+
+// Whether the counter is a working board's.
+pub fn is_working(c: Counter) -> bool
+    ensures { λ r. ⌜ r ≡ working c ⌝ }
+{
+    match control::setup_of(c.control) {
+        Setup::Unprogrammed => (c.control == 0) & c.count.out,
+        Setup::Programmed(_, m) => (c.control < 64)
+            & !(modes::from_two(m) & (c.count.register == 1)),
+    }
+}

@@ -1,0 +1,24 @@
+-- The specification's marked case 2, for the record of the sample memory: 512 held, one more end, a read. Proved by computing.
+use mathlib.Core.Path.{_≡_, refl}
+use mathlib.Core.Bool.{false}
+use Rattle.fifo.specs.declared.Fifo.{Fifo}
+use Rattle.fifo.specs.Flags.{flagBits}
+use Rattle.fifo.specs.Queue.{pushedTo, poppedFrom}
+
+abbrev pub full : Fifo
+full = record { held = 512; ovf = false }
+
+-- 7 reads 60 in hexadecimal
+pub full-reads : flagBits full ≡ 96
+unfolding flagBits
+full-reads = refl
+
+-- after one more end it reads 70
+pub over-reads : flagBits (pushedTo full) ≡ 112
+unfolding flagBits pushedTo
+over-reads = refl
+
+-- a read then leaves 511 held and OVF clear
+pub read-clears : poppedFrom (pushedTo full) ≡ record { held = 511; ovf = false }
+unfolding pushedTo poppedFrom
+read-clears = refl

@@ -1,0 +1,64 @@
+-- Where the sample memory keeps the samples held (manual 11.2; the specification, "What is delivered": a working board holds 0 to 512
+-- samples, oldest first from place 0; a read moves the rest down and free places are 0). A caller goes by `queue`, `layout`, the record
+-- after each event and the laws of Laws, and sees neither the places nor the test.
+pub mod Places
+pub mod Laws
+pub mod Steps
+use mathlib.Core.Path.{_≡_}
+use mathlib.Core.List.{List, [], _∷_, _++_}
+use mathlib.Core.Bool.{Bool, true, false, _&&_, _||_, not}
+use Prim.Native.Nat.{ℕ, _+_, _-_, _≤_}
+use lib.ListN.{length, take, drop, replicate}
+use lib.Dec.{leb, ltb, eqb}
+use Rattle.base.specs.Choice.{if_then_else_}
+use Rattle.base.specs.Tests.{all}
+use Rattle.fifo.specs.declared.Fifo.{Fifo}
+
+-- the samples held, oldest first
+pub queue : Fifo → List ℕ → List ℕ
+queue f memory = take (f .held) memory
+
+-- the whole memory that holds these samples: from place 0 on, free places 0
+pub layout : Fifo → List ℕ → List ℕ
+layout f samples = samples ++ replicate (512 - length samples) 0
+
+-- the record of a memory that holds nothing
+abbrev pub emptyFifo : Fifo
+emptyFifo = record { held = 0; ovf = false }
+
+-- the record after an end of a conversion: one sample more; with 512 held OVF is set instead
+unfoldable pub pushedTo : Fifo → Fifo
+pushedTo f = if ltb (f .held) 512 then record { held = f .held + 1; ovf = f .ovf } else record { held = f .held; ovf = true }
+
+-- the record after a read of 1: one sample less, and OVF clears; with none held no change
+unfoldable pub poppedFrom : Fifo → Fifo
+poppedFrom f = if eqb (f .held) 0 then f else record { held = f .held - 1; ovf = false }
+
+-- what an event leaves: the record is f, and the memory is the one that holds these samples
+pub record Leaves (f : Fifo) (samples : List ℕ) (result : Fifo) (memory : List ℕ) : Type 0 where
+  pub fifo : result ≡ f
+  pub laid : memory ≡ layout f samples
+
+-- whether every number of a list is 0
+unfoldable pub zeros : List ℕ → Bool
+zeros [] = true
+zeros (x ∷ xs) = eqb x 0 && zeros xs
+
+-- the tests that the code makes
+pub fifoTests : Fifo → List ℕ → List Bool
+fifoTests f memory =
+    eqb (length memory) 512 ∷ leb (f .held) 512 ∷ (not (f .ovf) || eqb (f .held) 512) ∷ zeros (drop (f .held) memory) ∷ []
+
+pub isWorking : Fifo → List ℕ → Bool
+isWorking f memory = all (fifoTests f memory)
+
+-- a working board's sample memory
+pub record WorkingFifo (f : Fifo) (memory : List ℕ) : Type 0 where
+  -- 512 places
+  pub long : length memory ≡ 512
+  -- 0 to 512 samples held
+  pub held : f .held ≤ 512
+  -- OVF is set only at 512 held
+  pub ovf : f .ovf ≡ true → f .held ≡ 512
+  -- the memory is the one that holds its samples: free places are 0
+  pub laid : memory ≡ layout f (queue f memory)

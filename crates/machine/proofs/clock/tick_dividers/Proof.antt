@@ -1,0 +1,14 @@
+-- `machine::clock::tick_dividers` meets its contract. Assumes nothing.
+use borrow.Author.Needs.{needs}
+use Rattle.machine.proofs.clock.tick_dividers.Statement.{statement}
+use Rattle.machine.proofs.clock.tick_dividers.Tie as tie
+use Rattle.machine.specs.Clock.{dividersTicked}
+
+pub tick-dividers-spec : {M : Type 1} → statement M
+unfolding dividersTicked
+tick-dividers-spec =
+    tie.close
+    (tie.spec
+    (λ c κs. search needs)
+    (λ c κs. search needs)
+    (λ c. simp (c .before .next-tick2 .ensures, c .before .before .next-tick .ensures)))

@@ -1,0 +1,13 @@
+-- `machine::edges::set_port` meets its contract. Assumes nothing.
+use borrow.Author.Needs.{needs}
+use Rattle.machine.proofs.edges.set_port.Statement.{statement}
+use Rattle.machine.proofs.edges.set_port.Tie as tie
+use Rattle.machine.specs.Pins.{portSet}
+
+pub set-port-spec : {M : Type 1} → statement M
+unfolding portSet
+set-port-spec =
+    tie.close
+    (tie.spec
+    (λ c κs. search needs)
+    (λ c. simp (c .set-pins .ensures)))

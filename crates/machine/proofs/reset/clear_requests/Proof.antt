@@ -1,0 +1,13 @@
+-- `machine::reset::clear_requests` meets its contract. Assumes nothing.
+use borrow.Author.Needs.{needs}
+use Rattle.machine.proofs.reset.clear_requests.Statement.{statement}
+use Rattle.machine.proofs.reset.clear_requests.Tie as tie
+use Rattle.machine.specs.Reset.{requestsCleared}
+
+pub clear-requests-spec : {M : Type 1} → statement M
+unfolding requestsCleared
+clear-requests-spec =
+    tie.close
+    (tie.spec
+    (λ c κs. search needs)
+    (λ c. simp (c .clear .ensures)))

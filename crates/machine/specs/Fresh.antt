@@ -1,0 +1,38 @@
+-- A fresh board. The specification, "What is delivered": "A fresh board is as after RESETA, with counters unprogrammed, dividers at 0,
+-- DIN 15, Latch and port pins 0, EEPROM and TrimDAC 0."
+use Prim.Native.Nat.{ℕ}
+use mathlib.Core.Bool.{Bool, false}
+use Rattle.converter.specs.Registers.{freshConverter, freshRequests}
+use Rattle.fifo.specs.Queue.{emptyFifo}
+use Rattle.outputs.specs.Outputs.{resetA}
+use Rattle.timer.specs.Timer.{unprogrammedTimer}
+use Rattle.ports.specs.Ports.{freshPorts}
+use Rattle.calibration.specs.Registers.{freshCalibration}
+use Rattle.machine.specs.declared.Jumpers.{Jumpers}
+use Rattle.machine.specs.declared.Jumpers.the-variants.{A, B, C, D}
+use Rattle.machine.specs.declared.Registers.{Registers}
+use Rattle.machine.specs.declared.Board.{Board}
+
+-- how the record keeps the channel configuration of manual 5.4
+abbrev pub numberOf : Jumpers → ℕ
+numberOf A = 0
+numberOf B = 1
+numberOf C = 2
+numberOf D = 3
+
+abbrev pub freshRegisters : Registers
+freshRegisters = record { page = 0; dout = 0; counting = 0; range = 0 }
+
+abbrev pub freshBoard : Jumpers → Bool → Board
+freshBoard j zeroscale = record {
+  converter = freshConverter;
+  requests = freshRequests;
+  fifo = emptyFifo;
+  registers = freshRegisters;
+  outputs = resetA zeroscale;
+  clocks = record { timer = unprogrammedTimer; hundred = 0; thousand = 0 };
+  ports = freshPorts;
+  calibration = freshCalibration;
+  pins = record { din = 15; latch = false };
+  wiring = record { inputs = numberOf j; zeroscale = zeroscale };
+}

@@ -1,0 +1,120 @@
+-- A working board, its sample memory apart. The specification, "What is delivered": "Every register, channel, port, counter and divider is
+-- within its width or range, DACBUSY has at most 100 ticks left, ...; no mode 2 counter has 1 to load, and an unprogrammed counter's OUT is high."
+use Prim.Native.Nat.{ℕ, _≤_}
+use mathlib.Core.Path.{_≡_}
+use mathlib.Core.Bool.{Bool, true}
+use mathlib.Core.List.{List, [], _∷_}
+use borrow.Author.Tests.{leb-true, le-leb}
+use lib.Dec.{leb}
+use Rattle.base.specs.Tests.{all, each, every}
+use Rattle.converter.specs.Working as converter
+use Rattle.outputs.specs.Working.{WorkingOutputs, outputsWork}
+use Rattle.outputs.specs.Laws.{outputs-of, outputs-to}
+use Rattle.timer.specs.Working.{WorkingTimer, workingTimer, timer-of, timer-to}
+use Rattle.ports.specs.Working.{WorkingPorts, portsWork}
+use Rattle.ports.specs.Laws.{ports-of, ports-to}
+use Rattle.calibration.specs.Working.{WorkingCalibration, calibrationWorks}
+use Rattle.calibration.specs.Laws.{calibration-of, calibration-to}
+use Rattle.machine.specs.declared.Registers.{Registers}
+use Rattle.machine.specs.declared.Clocks.{Clocks}
+use Rattle.machine.specs.declared.Board.{Board}
+
+-- four pages, three DOUT bits, four bits of Base+11; Base+10 is any byte
+pub record WorkingRegisters (r : Registers) : Type 0 where
+  pub page : r .page ≤ 3
+  pub dout : r .dout ≤ 7
+  pub range : r .range ≤ 15
+
+pub record WorkingClocks (k : Clocks) : Type 0 where
+  pub timer : WorkingTimer (k .timer)
+  pub hundred : k .hundred ≤ 99
+  pub thousand : k .thousand ≤ 999
+
+pub record WorkingMachine (b : Board) : Type 0 where
+  pub converter : converter.WorkingConverter (b .converter)
+  pub registers : WorkingRegisters (b .registers)
+  pub outputs : WorkingOutputs (b .outputs)
+  pub clocks : WorkingClocks (b .clocks)
+  pub ports : WorkingPorts (b .ports)
+  pub calibration : WorkingCalibration (b .calibration)
+  pub din : b .pins .din ≤ 15
+  pub inputs : b .wiring .inputs ≤ 3
+
+-- the tests that the code makes
+abbrev pub machineTests : Board → List Bool
+machineTests b =
+    converter.isWorking (b .converter)
+    ∷ leb (b .registers .page) 3
+    ∷ leb (b .registers .dout) 7
+    ∷ leb (b .registers .range) 15
+    ∷ outputsWork (b .outputs)
+    ∷ workingTimer (b .clocks .timer)
+    ∷ leb (b .clocks .hundred) 99
+    ∷ leb (b .clocks .thousand) 999
+    ∷ portsWork (b .ports)
+    ∷ calibrationWorks (b .calibration)
+    ∷ leb (b .pins .din) 15
+    ∷ leb (b .wiring .inputs) 3
+    ∷ []
+
+unfoldable pub workingMachine : Board → Bool
+workingMachine b = all (machineTests b)
+
+-- ---- the test holds where the facts do, and only there
+pub machine-of : (b : Board) → workingMachine b ≡ true → WorkingMachine b
+unfolding workingMachine
+machine-of b h =
+    let e = each (machineTests b) h in
+    record {
+      converter = converter.working-of _ (e .0);
+      registers = record { page = leb-true _ _ (e .1 .0); dout = leb-true _ _ (e .1 .1 .0); range = leb-true _ _ (e .1 .1 .1 .0) };
+      outputs = outputs-of _ (e .1 .1 .1 .1 .0);
+      clocks =
+          record {
+            timer = timer-of _ (e .1 .1 .1 .1 .1 .0);
+            hundred = leb-true _ _ (e .1 .1 .1 .1 .1 .1 .0);
+            thousand = leb-true _ _ (e .1 .1 .1 .1 .1 .1 .1 .0);
+          };
+      ports = ports-of _ (e .1 .1 .1 .1 .1 .1 .1 .1 .0);
+      calibration = calibration-of _ (e .1 .1 .1 .1 .1 .1 .1 .1 .1 .0);
+      din = leb-true _ _ (e .1 .1 .1 .1 .1 .1 .1 .1 .1 .1 .0);
+      inputs = leb-true _ _ (e .1 .1 .1 .1 .1 .1 .1 .1 .1 .1 .1 .0);
+    }
+
+pub machine-to : (b : Board) → WorkingMachine b → workingMachine b ≡ true
+unfolding workingMachine
+machine-to b w =
+    every (machineTests b) (
+      converter.working-to _ (w .converter),
+      (
+        le-leb _ _ (w .registers .page),
+        (
+          le-leb _ _ (w .registers .dout),
+          (
+            le-leb _ _ (w .registers .range),
+            (
+              outputs-to _ (w .outputs),
+              (
+                timer-to _ (w .clocks .timer),
+                (
+                  le-leb _ _ (w .clocks .hundred),
+                  (
+                    le-leb _ _ (w .clocks .thousand),
+                    (
+                      ports-to _ (w .ports),
+                      (
+                        calibration-to _ (w .calibration),
+                        (
+                          le-leb _ _ (w .din),
+                          (le-leb _ _ (w .inputs), tt),
+                        ),
+                      ),
+                    ),
+                  ),
+                ),
+              ),
+            ),
+          ),
+        ),
+      ),
+    )

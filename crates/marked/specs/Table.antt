@@ -1,0 +1,111 @@
+-- The specification, "Marked for proof (as one table)": each board case starts fresh, with what it says besides. Case 11, of the collector, is
+-- not in it yet.
+use Prim.Native.Nat.{ℕ, _+_, _*_, _^_}
+use mathlib.Core.Path.{_≡_, refl}
+use mathlib.Core.Bool.{Bool, true, false}
+use mathlib.Core.List.{List, [], _∷_}
+use lib.IntN.{ℤ, pos, negsuc, negℤ}
+use lib.Ieee.{fin, round}
+use lib.Ieee.Exact.{HasValue}
+use mir.Syntax.{w16}
+use mir.Val.{toZ}
+use Rattle.counting.specs.Control.{command, wordRefused, setupOf}
+use Rattle.counting.specs.Element.{countedBy}
+use Rattle.counting.specs.Counter.{commanded, pulsed, gateMoved, counterRead, byteRefused, byteWritten}
+use Rattle.timer.specs.Timer.{moved, clockedIf, gatesMoved, controlRefused, controlWritten, countRefused, countWritten, timerRead}
+use Rattle.fifo.specs.Samples.{pushed}
+use Rattle.fifo.specs.Queue.{pushedTo, poppedFrom}
+use Rattle.fifo.specs.Flags.{flagBits}
+use Rattle.converter.specs.Channels.{nextChannel}
+use Rattle.machine.specs.Clock.{turned, dividersTicked, counter0Ticked, counter1Ticked, outputsTicked, ticked, countingWritten}
+use Rattle.machine.specs.Reset.{boardReset, requestsCleared, pageSet, miscWritten}
+use Rattle.bus.specs.Place.{placeOf}
+use Rattle.bus.specs.Read.{byteAt, afterRead, readEffect}
+use Rattle.bus.specs.Write.{writtenAt, writeEffect}
+use Rattle.bus.specs.Refusals.{writeChecks, readChecks}
+use Rattle.board.specs.Act.{acted, eepromActed}
+use Rattle.board.specs.Refusals.{eventChecks}
+use Rattle.board.specs.Step.{ran}
+use Rattle.board.specs.Held.{answered, happened}
+use Rattle.board.specs.declared.Answer.the-variants.{Done, Byte, Word}
+use Rattle.board.specs.declared.Event.{Event}
+use Rattle.board.specs.declared.Event.the-variants.{WriteByte, ReadByte, ReadWord, ConversionEnd}
+use Rattle.volts.specs.declared.Voltage.the-variants.{Volts}
+use Rattle.volts.specs.Volts.{readingOf, voltage}
+use Rattle.codes.specs.Output.{given, refused, outputOf, bytesOf}
+use Rattle.marked.specs.Runs.{fresh, full, after, answers, channels, conversions, outs, ticks}
+
+-- five of something, six, four: a list that is as long
+abbrev pub five : List ℕ
+five = 1 ∷ 2 ∷ 3 ∷ 4 ∷ 5 ∷ []
+
+abbrev pub six : List ℕ
+six = 1 ∷ 2 ∷ 3 ∷ 4 ∷ 5 ∷ 6 ∷ []
+
+abbrev pub four : List ℕ
+four = 1 ∷ 2 ∷ 3 ∷ 4 ∷ []
+
+-- channels low to high are written
+abbrev pub range : ℕ → ℕ → List Event
+range low high = WriteByte 2 low ∷ WriteByte 3 high ∷ []
+
+-- a control word and one byte of a count for counter 0
+abbrev pub counter0 : ℕ → ℕ → List Event
+counter0 word byte = WriteByte 15 word ∷ WriteByte 12 byte ∷ []
+
+pub record Marked : Type 0 where
+  -- 1. 7←0A on an empty board: 7 reads 88
+  pub case-1 : answers fresh (WriteByte 7 0x0A ∷ ReadByte 7 ∷ []) ≡ Done ∷ Byte 0x88 ∷ []
+  -- 2. 512 held: 7 reads 60; one more end: 70; word read: 511 held, OVF clear
+  pub case-2 : answers full (ReadByte 7 ∷ WriteByte 0 0 ∷ ConversionEnd (pos 1) ∷ ReadByte 7 ∷ ReadWord 0 ∷ [])
+      ≡ Byte 0x60 ∷ Done ∷ Done ∷ Byte 0x70 ∷ Word 0 ∷ []
+  pub case-2-held : after full (WriteByte 0 0 ∷ ConversionEnd (pos 1) ∷ ReadWord 0 ∷ []) .board .fifo ≡ record { held = 511; ovf = false }
+  -- 3. Channels 3-5, five conversions: 3,4,5,3,4; selected 5
+  pub case-3 : channels five (after fresh (range 3 5)) ≡ 3 ∷ 4 ∷ 5 ∷ 3 ∷ 4 ∷ []
+  pub case-3-selected : conversions five (after fresh (range 3 5)) .board .converter .selected ≡ 5
+  -- 4. Low 30, high 1: 30,31,0,1,30
+  pub case-4 : channels five (after fresh (range 30 1)) ≡ 30 ∷ 31 ∷ 0 ∷ 1 ∷ 30 ∷ []
+  -- 5. Page 1, 8←0B: page 1
+  pub case-5 : after fresh (WriteByte 8 1 ∷ WriteByte 8 0x0B ∷ []) .board .registers .page ≡ 1
+  -- 6. Bytes 60, C5: -15008; ±5 V: -2.2900390625
+  pub case-6 : toZ w16 (0x60 + 256 * 0xC5) ≡ negℤ (pos 15008)
+  pub case-6-volts : voltage (readingOf (negℤ (pos 15008)) 0) ≡ Volts (fin true 2345 (negsuc 9))
+  pub case-6-decimal : HasValue (fin true 2345 (negsuc 9)) true 22900390625 (10 ^ 10)
+  -- 7. 3,000,000 µV, ±5: 3277, for channel 1 bytes 205, 76
+  pub case-7 : outputOf (pos 3000000) 0 ≡ given 3277
+  pub case-7-bytes : bytesOf (pos 3000000) 0 1 ≡ given (205 + 256 * 76)
+  -- 8. 4,998,779: 4095; 4,998,780: 18. -5,000,000: 0; -5,000,001: 18
+  pub case-8-top : outputOf (pos 4998779) 0 ≡ given 4095
+  pub case-8-above : outputOf (pos 4998780) 0 ≡ refused 18
+  pub case-8-low : outputOf (negℤ (pos 5000000)) 0 ≡ given 0
+  pub case-8-below : outputOf (negℤ (pos 5000001)) 0 ≡ refused 18
+  -- 9. Counter 0, mode 2, count 3, OUT after ticks: H H L H H L
+  pub case-9 : outs six (after fresh (counter0 0x14 3)) ≡ true ∷ true ∷ false ∷ true ∷ true ∷ false ∷ []
+  -- 10. Counter 0, mode 0, count 2: L L H H; count 65,535 after the fourth
+  pub case-10 : outs four (after fresh (counter0 0x10 2)) ≡ false ∷ false ∷ true ∷ true ∷ []
+  pub case-10-count : ticks four (after fresh (counter0 0x10 2)) .board .clocks .timer .counter0 .count .element ≡ 65535
+
+pub marked : Marked
+unfolding command wordRefused setupOf countedBy commanded pulsed gateMoved counterRead byteRefused byteWritten moved clockedIf gatesMoved controlRefused controlWritten countRefused countWritten timerRead pushed pushedTo poppedFrom flagBits nextChannel turned dividersTicked counter0Ticked counter1Ticked outputsTicked ticked countingWritten boardReset requestsCleared pageSet miscWritten placeOf byteAt afterRead readEffect writtenAt writeEffect writeChecks readChecks acted eepromActed eventChecks ran answered happened round
+marked =
+    record {
+      case-1 = refl;
+      case-2 = refl;
+      case-2-held = refl;
+      case-3 = refl;
+      case-3-selected = refl;
+      case-4 = refl;
+      case-5 = refl;
+      case-6 = refl;
+      case-6-volts = refl;
+      case-6-decimal = (refl, refl);
+      case-7 = refl;
+      case-7-bytes = refl;
+      case-8-top = refl;
+      case-8-above = refl;
+      case-8-low = refl;
+      case-8-below = refl;
+      case-9 = refl;
+      case-10 = refl;
+      case-10-count = refl;
+    }

@@ -1,0 +1,3 @@
+pub mod Outputs
+pub mod Working
+pub mod Laws

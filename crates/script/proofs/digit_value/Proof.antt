@@ -1,0 +1,15 @@
+-- `script::digit_value` meets its contract. Assumes nothing.
+use borrow.Author.Needs.{needs}
+use borrow.Author.Tests.{le-leb, lt-leb}
+use Rattle.script.proofs.digit_value.Statement.{statement}
+use Rattle.script.proofs.digit_value.Tie as tie
+
+pub digit-value-spec : {M : Type 1} → statement M
+digit-value-spec =
+    tie.close
+    (tie.spec
+    (λ c. search needs)
+    (λ c. search needs)
+    (λ c. search needs)
+    (λ c. simp (le-leb _ _ (c .if1 .taken)))
+    (λ c. simp (lt-leb _ _ (c .if1 .left))))

@@ -1,0 +1,10 @@
+-- `script::open` meets its contract. Assumes nothing.
+use Rattle.script.proofs.open.Statement.{statement}
+use Rattle.script.proofs.open.Tie as tie
+
+pub open-spec : {M : Type 1} → statement M
+open-spec =
+    tie.close
+    (tie.spec
+    (λ c. simp (c .if1 .taken))
+    (λ c. simp (c .if1 .left)))

@@ -1,0 +1,4 @@
+pub mod Timer
+pub mod Working
+pub mod Kept
+pub mod Edges

@@ -1,0 +1,98 @@
+-- Three counters. Manual, 17.1: "Counters 1 and 2 are cascaded together ... The output of counter 1 provides the input for counter 2";
+-- counter 0 has a gate of its own, counters 1 and 2 share one. Data sheet (chapter 19): "Control Word Format", SC. The specification:
+-- "A falling OUT1 clocks counter 2, whether a tick or a write caused it."
+use Prim.Native.Nat.{ℕ}
+use mathlib.Core.Bool.{Bool, true, false, not, _&&_, _||_}
+use lib.Dec.{eqb}
+use Rattle.base.specs.Choice.{if_then_else_}
+use Rattle.base.specs.Fields.{field}
+use Rattle.counting.specs.Control.{wordRefused}
+use Rattle.counting.specs.Counter.{unprogrammed, commanded, pulsed, gateMoved, counterRead, byteRefused, byteWritten}
+use Rattle.counting.specs.declared.Counter.{Counter}
+use Rattle.timer.specs.declared.Timer.{Timer}
+use Rattle.timer.specs.declared.Gates.{Gates}
+use Rattle.timer.specs.declared.Select.{Select}
+use Rattle.timer.specs.declared.Select.the-variants.{Counter0, Counter1, Counter2}
+use Rattle.timer.specs.declared.Written.{Written}
+use Rattle.timer.specs.declared.Written.the-variants.{Accepted, Refused}
+use Rattle.timer.specs.declared.TimerRead.{TimerRead}
+
+abbrev pub unprogrammedTimer : Timer
+unprogrammedTimer = record { counter0 = unprogrammed; counter1 = unprogrammed; counter2 = unprogrammed }
+
+abbrev pub counterOf : Timer → Select → Counter
+counterOf t Counter0 = t .counter0
+counterOf t Counter1 = t .counter1
+counterOf t Counter2 = t .counter2
+
+-- table of 17.1: counter 0 is gated by Gate 0 / Din 1, counters 1 and 2 by Extgate / Din 2
+abbrev pub gateOf : Gates → Select → Bool
+gateOf g Counter0 = g .gate0
+gateOf g Counter1 = g .gate12
+gateOf g Counter2 = g .gate12
+
+abbrev pub out : Timer → Select → Bool
+out t s = counterOf t s .count .out
+
+-- a level goes from high to low
+abbrev pub fell : Bool → Bool → Bool
+fell was is = was && not is
+
+-- ---- the cascade, which all that changes a counter's OUT goes through
+-- the timer with the counter s being d
+abbrev pub put : Timer → Select → Counter → Timer
+put t Counter0 d = record { counter0 = d; counter1 = t .counter1; counter2 = t .counter2 }
+put t Counter1 d = record { counter0 = t .counter0; counter1 = d; counter2 = t .counter2 }
+put t Counter2 d = record { counter0 = t .counter0; counter1 = t .counter1; counter2 = d }
+
+-- where OUT1 fell between two states of the timer, counter 2 has one CLK pulse in the second
+abbrev pub cascaded : Timer → Timer → Gates → Timer
+cascaded before after g =
+    if fell (out before Counter1) (out after Counter1)
+    then put after Counter2 (pulsed (after .counter2) (gateOf g Counter2))
+    else after
+
+-- the counter s becomes d
+unfoldable pub moved : Timer → Select → Counter → Gates → Timer
+moved t s d g = cascaded t (put t s d) g
+
+-- ---- a CLK pulse at the counter s
+abbrev pub clocked : Timer → Select → Gates → Timer
+clocked t s g = moved t s (pulsed (counterOf t s) (gateOf g s)) g
+
+unfoldable pub clockedIf : Timer → Select → Gates → Bool → Timer
+clockedIf t s g pulse = if pulse then clocked t s g else t
+
+-- ---- the gates go from was to is
+unfoldable pub gatesMoved : Timer → Gates → Gates → Timer
+gatesMoved t was is = record {
+  counter0 = gateMoved (t .counter0) (was .gate0) (is .gate0);
+  counter1 = gateMoved (t .counter1) (was .gate12) (is .gate12);
+  counter2 = gateMoved (t .counter2) (was .gate12) (is .gate12);
+}
+
+-- ---- a control word. SC - Select Counter: 00, 01, 10 select counter 0, 1, 2; 11 is the read-back command, which is not modelled
+abbrev pub selected : ℕ → Select
+selected sc = if eqb sc 0 then Counter0 else if eqb sc 1 then Counter1 else Counter2
+
+unfoldable pub controlRefused : ℕ → Bool
+controlRefused w = eqb (field w 64 4) 3 || wordRefused w
+
+-- the specification's refusal 7, "setting not modelled: ... listed 8254 ... cases"
+unfoldable pub controlWritten : Timer → ℕ → Gates → Written
+controlWritten t w g =
+    if controlRefused w then Refused 7
+    else Accepted (moved t (selected (field w 64 4)) (commanded (counterOf t (selected (field w 64 4))) w) g)
+
+-- ---- a byte of a count for the counter s
+unfoldable pub countRefused : Timer → Select → ℕ → Bool
+countRefused t s b = byteRefused (counterOf t s) b
+
+unfoldable pub countWritten : Timer → Select → ℕ → Gates → Written
+countWritten t s b g =
+    if countRefused t s b then Refused 7
+    else Accepted (moved t s (byteWritten (counterOf t s) b) g)
+
+-- ---- a read of the counter s, which moves no OUT
+unfoldable pub timerRead : Timer → Select → TimerRead
+timerRead t s = record { byte = counterRead (counterOf t s) .byte; timer = put t s (counterRead (counterOf t s) .counter) }

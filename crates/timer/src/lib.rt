@@ -1,0 +1,225 @@
+// The 82C54's three counters with their gates and the cascade (manual, chapters 17 and 19). Each event is a function on the three by
+// value, total over any record, and its contract is a definition of specs/Timer.antt.
+use counting::Counter;
+ghost use mathlib.Core.Path.{_≡_};
+ghost use Rattle.timer.specs.Timer.{unprogrammedTimer, counterOf, gateOf, out, fell, put, cascaded, moved, clocked, clockedIf, gatesMoved};
+ghost use Rattle.timer.specs.Timer.{selected, controlRefused, controlWritten, countRefused, countWritten, timerRead};
+ghost use Rattle.timer.specs.Working.{workingTimer};
+
+#[repr(C)]
+pub struct Timer {
+    pub counter0: Counter,
+    pub counter1: Counter,
+    pub counter2: Counter,
+}
+
+// The GATE levels: counter 0's, and the one of counters 1 and 2.
+#[repr(C)]
+pub struct Gates {
+    pub gate0: bool,
+    pub gate12: bool,
+}
+
+pub enum Select {
+    Counter0,
+    Counter1,
+    Counter2,
+}
+
+// What a write answers: the timer after it, or the refusal number.
+pub enum Written {
+    Accepted(Timer),
+    Refused(u8),
+}
+
+// The byte that a read gives, and the timer after it.
+pub struct TimerRead {
+    pub byte: u8,
+    pub timer: Timer,
+}
+
+// The refusal number of a setting that is not modelled.
+const NOT_MODELLED: u8 = 7;
+
+// The three counters before their first control words.
+pub fn new() -> Timer
+    ensures { λ r. ⌜ r ≡ unprogrammedTimer ⌝ }
+{
+    Timer {
+        counter0: counting::new(),
+        counter1: counting::new(),
+        counter2: counting::new(),
+    }
+}
+
+fn counter_of(t: Timer, s: Select) -> Counter
+    ensures { λ r. ⌜ r ≡ counterOf t s ⌝ }
+{
+    match s {
+        Select::Counter0 => t.counter0,
+        Select::Counter1 => t.counter1,
+        Select::Counter2 => t.counter2,
+    }
+}
+
+fn gate_of(g: Gates, s: Select) -> bool
+    ensures { λ r. ⌜ r ≡ gateOf g s ⌝ }
+{
+    match s {
+        Select::Counter0 => g.gate0,
+        Select::Counter1 => g.gate12,
+        Select::Counter2 => g.gate12,
+    }
+}
+
+// OUT of a counter: a caller compares it before and after an event.
+pub fn out_of(t: Timer, s: Select) -> bool
+    ensures { λ r. ⌜ r ≡ out t s ⌝ }
+{
+    let c = counter_of(t, s);
+    c.count.out
+}
+
+// Whether a level went from high to low.
+pub fn has_fallen(was: bool, is: bool) -> bool
+    ensures { λ r. ⌜ r ≡ fell was is ⌝ }
+{
+    was & !is
+}
+
+fn put_counter(t: Timer, s: Select, d: Counter) -> Timer
+    ensures { λ r. ⌜ r ≡ put t s d ⌝ }
+{
+    let mut u = t;
+    match s {
+        Select::Counter0 => {
+            u.counter0 = d;
+            u
+        }
+        Select::Counter1 => {
+            u.counter1 = d;
+            u
+        }
+        Select::Counter2 => {
+            u.counter2 = d;
+            u
+        }
+    }
+}
+
+// A falling OUT1 clocks counter 2: the only place that says so.
+fn cascade(before: Timer, after: Timer, g: Gates) -> Timer
+    ensures { λ r. ⌜ r ≡ cascaded before after g ⌝ }
+{
+    let c = after.counter2;
+    let mut u = after;
+    if has_fallen(before.counter1.count.out, after.counter1.count.out) {
+        u.counter2 = counting::pulse(c, g.gate12);
+        u
+    } else {
+        after
+    }
+}
+
+fn move_counter(t: Timer, s: Select, d: Counter, g: Gates) -> Timer
+    ensures { λ r. ⌜ r ≡ moved t s d g ⌝ }
+{
+    cascade(t, put_counter(t, s, d), g)
+}
+
+fn clock(t: Timer, s: Select, g: Gates) -> Timer
+    ensures { λ r. ⌜ r ≡ clocked t s g ⌝ }
+{
+    move_counter(t, s, counting::pulse(counter_of(t, s), gate_of(g, s)), g)
+}
+
+// A CLK pulse at a counter, where its clock source has one.
+pub fn clock_if(t: Timer, s: Select, g: Gates, pulse: bool) -> Timer
+    ensures { λ r. ⌜ r ≡ clockedIf t s g pulse ⌝ }
+{
+    if pulse { clock(t, s, g) } else { t }
+}
+
+// The gates go from `was` to `is`.
+pub fn move_gates(t: Timer, was: Gates, is: Gates) -> Timer
+    ensures { λ r. ⌜ r ≡ gatesMoved t was is ⌝ }
+{
+    let a = t.counter0;
+    let b = t.counter1;
+    let c = t.counter2;
+    Timer {
+        counter0: counting::move_gate(a, was.gate0, is.gate0),
+        counter1: counting::move_gate(b, was.gate12, is.gate12),
+        counter2: counting::move_gate(c, was.gate12, is.gate12),
+    }
+}
+
+fn select_of(sc: u8) -> Select
+    ensures { λ r. ⌜ r ≡ selected sc ⌝ }
+{
+    if sc == 0 {
+        Select::Counter0
+    } else if sc == 1 {
+        Select::Counter1
+    } else {
+        Select::Counter2
+    }
+}
+
+// Whether a control word is refused.
+pub fn refuses_control(word: u8) -> bool
+    ensures { λ r. ⌜ r ≡ controlRefused word ⌝ }
+{
+    (word / 64 % 4 == 3) | counting::refuses_word(word)
+}
+
+// A control word: it goes to the counter that it selects.
+pub fn write_control(t: Timer, word: u8, g: Gates) -> Written
+    ensures { λ r. ⌜ r ≡ controlWritten t word g ⌝ }
+{
+    if refuses_control(word) {
+        Written::Refused(NOT_MODELLED)
+    } else {
+        let s = select_of(word / 64 % 4);
+        Written::Accepted(move_counter(t, s, counting::write_word(counter_of(t, s), word), g))
+    }
+}
+
+// Whether a byte of a count for a counter is refused.
+pub fn refuses_count(t: Timer, s: Select, byte: u8) -> bool
+    ensures { λ r. ⌜ r ≡ countRefused t s byte ⌝ }
+{
+    counting::refuses_byte(counter_of(t, s), byte)
+}
+
+// A byte of a count.
+pub fn write_count(t: Timer, s: Select, byte: u8, g: Gates) -> Written
+    ensures { λ r. ⌜ r ≡ countWritten t s byte g ⌝ }
+{
+    if refuses_count(t, s, byte) {
+        Written::Refused(NOT_MODELLED)
+    } else {
+        Written::Accepted(move_counter(t, s, counting::write_byte(counter_of(t, s), byte), g))
+    }
+}
+
+// A read of a counter.
+pub fn read(t: Timer, s: Select) -> TimerRead
+    ensures { λ r. ⌜ r ≡ timerRead t s ⌝ }
+{
+    let a = counting::read(counter_of(t, s));
+    let d = a.counter;
+    TimerRead {
+        byte: a.byte,
+        timer: put_counter(t, s, d),
+    }
+}
+
+// Whether the three counters are a working board's.
+pub fn is_working(t: Timer) -> bool
+    ensures { λ r. ⌜ r ≡ workingTimer t ⌝ }
+{
+    counting::is_working(t.counter0)
+        & counting::is_working(t.counter1)
+        & counting::is_working(t.counter2)
+}

@@ -1,0 +1,155 @@
+-- No operation of `volts` rounds: each gives exactly a whole number over a power of two (the specification, "The f64 is exactly a whole number
+-- over 2^18"). The scaling by a power of two is behind one law, `scaled`.
+use mathlib.Core.Path.{_≡_, refl, ap, _∙_}
+use mathlib.Core.Bool.{Bool, true, false}
+use mathlib.Core.List.{List, [], _∷_, map}
+use Prim.Native.Nat.{ℕ, zero, suc, _+_, _*_, _/_, _^_, _≤_, _<_}
+use native.Mathlib.Nat.{mul-pos, mul-one, one-mul, mul-le-mul, zero-lt-suc, lt-irrefl, lt-of-lt-of-le, lt-of-le-of-lt, le-of-lt}
+use borrow.Author.Tests.{eqb-true, leb-true, ltb-true}
+use lib.Dec.{eqb, ltb, leb, lit<, lit≤}
+use lib.ListN.{getD}
+use lib.Pow.{pow-add, pow-pos}
+use lib.IntN.{ℤ, pos, negsuc, natAbs, negℤ, _+ℤ_, _*ℤ_}
+use lib.Ieee.{Float, fin, binary64, unlike, round, mul, div, ofInt}
+use lib.Ieee.Exact.{HasValue}
+use lib.Ieee.Scale.{round-same}
+use Rattle.base.specs.Tests.{all, Each, each}
+use Rattle.volts.specs.declared.Voltage.the-variants.{Volts}
+use Rattle.volts.specs.Table.{Row, valid, invalid, absent, bipolar, unipolar, table, rowOf}
+use Rattle.volts.specs.Rounding.{mul-round, div-round, exactly, cast-exact}
+use Rattle.volts.specs.Volts.{fullScale, negative, overTwoTo18, whole, Answers}
+
+-- The f64 x is exactly b / 2 ^ j, with b from 1 to 80.
+pub record FullScaleIs (x : Float) (b j : ℕ) : Type 0 where
+  pub exact : HasValue x false b (2 ^ j)
+  pub above : 0 < b
+  pub most : b ≤ 80
+
+-- A row's full scale is exact: 8 * FS is whole where the row is bipolar, 4 * FS where it is unipolar.
+abbrev pub RowExact : Row → Type 0
+RowExact (valid bipolar range gain) = FullScaleIs (fullScale range gain) (range * 8 / gain) 3
+RowExact (valid unipolar range gain) = FullScaleIs (fullScale range gain) (range * 4 / gain) 2
+RowExact (invalid p range gain) = Unit
+RowExact absent = Unit
+
+-- A row passes where its gain divides 2 ^ j times its range, j being 3 or 2, and the quotient is from 1 to 80.
+abbrev quotientTests : ℕ → ℕ → ℕ → List Bool
+quotientTests j range gain =
+    ltb 0 gain ∷ eqb (range * 2 ^ j) (range * 2 ^ j / gain * gain) ∷ ltb 0 (range * 2 ^ j / gain) ∷ leb (range * 2 ^ j / gain) 80 ∷ []
+
+abbrev rowTest : Row → Bool
+rowTest (valid bipolar range gain) = all (quotientTests 3 range gain)
+rowTest (valid unipolar range gain) = all (quotientTests 2 range gain)
+rowTest (invalid p range gain) = true
+rowTest absent = true
+
+quotient-exact : (j range gain : ℕ) → j ≤ 1074 → all (quotientTests j range gain) ≡ true → FullScaleIs (fullScale range gain) (range * 2 ^ j / gain) j
+quotient-exact j range gain J t =
+    let h = each (quotientTests j range gain) t in
+    let b = range * 2 ^ j / gain in
+    let most = leb-true b 80 (h .1 .1 .1 .0) in
+    record {
+      exact = rw (round-same binary64 false range gain b (2 ^ j) (ltb-true 0 gain (h .0)) (pow-pos j) (eqb-true _ _ (h .1 .0)))
+          (exactly false b j (lt-of-le-of-lt most (lit< tt)) J);
+      above = ltb-true 0 b (h .1 .1 .0);
+      most = most;
+    }
+
+row-passes : (r : Row) → rowTest r ≡ true → RowExact r
+row-passes (valid bipolar range gain) t = quotient-exact 3 range gain (lit≤ tt) t
+row-passes (valid unipolar range gain) t = quotient-exact 2 range gain (lit≤ tt) t
+row-passes (invalid p range gain) t = tt
+row-passes absent t = tt
+
+row-at : (rows : List Row) → Each (map rowTest rows) → (k : ℕ) → rowTest (getD rows k absent) ≡ true
+row-at [] e k = refl
+row-at (r ∷ rs) e zero = e .0
+row-at (r ∷ rs) e (suc k) = row-at rs (e .1) k
+
+-- The full scale of every row is exact.
+pub row-exact : (range : ℕ) → RowExact (rowOf range)
+row-exact range = row-passes (rowOf range) (row-at table (each (map rowTest table) refl) range)
+
+-- The sign and the size of a product.
+negated : (m : ℕ) → 0 < m → (negative (negℤ (pos m)) ≡ true) × (natAbs (negℤ (pos m)) ≡ m)
+negated zero h = absurd (lt-irrefl 0 h)
+negated (suc m) h = (refl, refl)
+
+times : (n : ℤ) (b : ℕ) → 0 < b → (negative (n *ℤ pos b) ≡ negative n) × (natAbs (n *ℤ pos b) ≡ natAbs n * b)
+times (pos n) b h = (refl, refl)
+times (negsuc n) b h = negated (suc n * b) (mul-pos (zero-lt-suc n) h)
+
+same-sign : (s : Bool) → unlike s false ≡ s
+same-sign false = refl
+same-sign true = refl
+
+-- The three operations on a whole number n and a full scale x, which is b / 2 ^ j: the cast, the product, and its scaling y by 2 ^ -k.
+pub record OperationsExact (n : ℤ) (x y : Float) (b j k : ℕ) : Type 0 where
+  pub cast : HasValue (ofInt binary64 n) (negative n) (natAbs n) 1
+  pub product : HasValue (mul binary64 (ofInt binary64 n) x) (negative n) (natAbs n * b) (2 ^ j)
+  pub scaling : HasValue y (negative n) (natAbs n * b) (2 ^ (j + k))
+
+module _ (n : ℤ) (b j k : ℕ) (x : Float) (N : natAbs n < 65536) (F : FullScaleIs x b j) (J : j ≤ 1074) (K : j + k ≡ 18) where
+  small : natAbs n * b < 2 ^ 53
+  small = lt-of-le-of-lt (mul-le-mul (le-of-lt N) (F .most)) (lit< tt)
+
+  whole-cast : HasValue (ofInt binary64 n) (negative n) (natAbs n) 1
+  whole-cast = cast-exact n (lt-of-lt-of-le N (lit≤ tt))
+
+  product-exact : HasValue (mul binary64 (ofInt binary64 n) x) (negative n) (natAbs n * b) (2 ^ j)
+  product-exact =
+      rw (mul-round binary64 (negative n) false (natAbs n) 1 b (2 ^ j) (lit< tt) (pow-pos j) (ofInt binary64 n) x whole-cast (F .exact), same-sign, one-mul)
+      (exactly (negative n) (natAbs n * b) j small J)
+
+  -- what scales the product by 2 ^ -k, rounded once, gives the answer exactly
+  pub scaled : (y : Float) → y ≡ round binary64 (unlike (negative n) false) (natAbs n * b * 1) (2 ^ j * 2 ^ k)
+      → Answers (Volts y) (whole (n *ℤ pos b)) × OperationsExact n x y b j k
+  scaled y e =
+      let t = times n b (F .above) in
+      let same : y ≡ round binary64 (negative n) (natAbs n * b) (2 ^ (j + k)) = e ∙ rw (same-sign, mul-one, ← pow-add) in
+      let is : y ≡ overTwoTo18 (n *ℤ pos b) = same ∙ rw (K, t .0, t .1) in (
+        record { is = ap Volts is; exact = rw is (exactly (negative (n *ℤ pos b)) (natAbs (n *ℤ pos b)) 18 (rw (t .1) small) (lit≤ tt)) },
+        record {
+          cast = whole-cast;
+          product = product-exact;
+          scaling = rw (same, K) (exactly (negative n) (natAbs n * b) 18 small (lit≤ tt));
+        },
+      )
+
+  -- a division by 2 ^ k does
+  pub divided : (y : Float) → HasValue y false (2 ^ k) 1 → let r = div binary64 (mul binary64 (ofInt binary64 n) x) y in
+      Answers (Volts r) (whole (n *ℤ pos b)) × OperationsExact n x r b j k
+  divided y w =
+      scaled (div binary64 (mul binary64 (ofInt binary64 n) x) y)
+      (div-round binary64 (negative n) false (natAbs n * b) (2 ^ j) (2 ^ k) 1 (pow-pos j) (lit< tt) (pow-pos k) (mul binary64 (ofInt binary64 n) x) y product-exact w)
+
+-- What `volts` computes of a whole number n and a full scale x: n * x / 2 ^ k.
+abbrev pub computed : ℤ → Float → ℕ → Float
+computed n x k = div binary64 (mul binary64 (ofInt binary64 n) x) (fin false 1 (pos k))
+
+-- The operations that a row and a code call for.
+abbrev pub OperationsAt : Row → ℤ → Type 0
+OperationsAt (valid bipolar range gain) code =
+    let fs = fullScale range gain in OperationsExact code fs (computed code fs 15) (range * 8 / gain) 3 15
+OperationsAt (valid unipolar range gain) code =
+    let fs = fullScale range gain in let n = code +ℤ pos 32768 in OperationsExact n fs (computed n fs 16) (range * 4 / gain) 2 16
+OperationsAt (invalid p range gain) code = Unit
+OperationsAt absent code = Unit
+
+pub bipolar-volts : (n : ℤ) (range gain : ℕ) → natAbs n < 65536 → RowExact (valid bipolar range gain) →
+    let fs = fullScale range gain in Answers (Volts (computed n fs 15)) (whole (n *ℤ pos (range * 8 / gain))) × OperationsExact n fs (computed n fs 15) (range * 8 / gain) 3 15
+bipolar-volts n range gain N f = divided n (range * 8 / gain) 3 15 (fullScale range gain) N f (lit≤ tt) refl (fin false 1 (pos 15)) (refl, refl)
+
+pub unipolar-volts : (n : ℤ) (range gain : ℕ) → natAbs n < 65536 → RowExact (valid unipolar range gain) →
+    let fs = fullScale range gain in Answers (Volts (computed n fs 16)) (whole (n *ℤ pos (range * 4 / gain))) × OperationsExact n fs (computed n fs 16) (range * 4 / gain) 2 16
+unipolar-volts n range gain N f = divided n (range * 4 / gain) 2 16 (fullScale range gain) N f (lit≤ tt) refl (fin false 1 (pos 16)) (refl, refl)
+
+at-row : (r : Row) (code : ℤ) → natAbs code < 65536 → natAbs (code +ℤ pos 32768) < 65536 → RowExact r → OperationsAt r code
+at-row (valid bipolar range gain) code N M f = bipolar-volts code range gain N f .1
+at-row (valid unipolar range gain) code N M f = unipolar-volts (code +ℤ pos 32768) range gain M f .1
+at-row (invalid p range gain) code N M f = tt
+at-row absent code N M f = tt
+
+-- At every range code and every code of sixteen bits no operation rounds.
+pub operations-exact : (range : ℕ) (code : ℤ) → natAbs code < 65536 → natAbs (code +ℤ pos 32768) < 65536 → OperationsAt (rowOf range) code
+operations-exact range code N M = at-row (rowOf range) code N M (row-exact range)

@@ -1,0 +1,6 @@
+pub mod Table
+pub mod Volts
+pub mod Rounding
+pub mod Exact
+pub mod Host
+pub mod Marked
