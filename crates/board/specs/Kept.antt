@@ -18,7 +18,11 @@ use Rattle.fifo.specs.declared.Fifo.{Fifo}
 use Rattle.converter.specs.Working.{ended-works}
 use Rattle.calibration.specs.Laws as calibration
 use Rattle.calibration.specs.Transfers.{eepromEnded}
+use Rattle.counting.specs.Control.{command, setupOf}
+use Rattle.counting.specs.Counter.{gateMoved}
+use Rattle.timer.specs.Timer.{gatesMoved}
 use Rattle.machine.specs.Fresh.{freshBoard}
+use Rattle.machine.specs.Reset.{boardReset}
 use Rattle.machine.specs.Working.{WorkingMachine}
 use Rattle.machine.specs.Kept.{converter-kept, calibration-kept, same-working, ticked-works, din-works, latch-works, port-works, fresh-working}
 use Rattle.machine.specs.declared.Board.{Board}
@@ -127,3 +131,8 @@ module _ (b : Board) (m e : List ℕ) (ev : Event) where
 -- ---- the fresh board with fresh stores
 pub fresh-works : (j : Jumpers) (zeroscale : Bool) → WorkingBoard (freshBoard j zeroscale) (layout emptyFifo [])
 fresh-works j zeroscale = record { machine = fresh-working j zeroscale; fifo = clear-works }
+
+-- "A fresh board is as after RESETA"
+pub fresh-reset : (j : Jumpers) (zeroscale : Bool) → boardReset (freshBoard j zeroscale) true ≡ freshBoard j zeroscale
+unfolding boardReset gatesMoved gateMoved setupOf command
+fresh-reset j zeroscale = refl

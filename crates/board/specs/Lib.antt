@@ -9,3 +9,4 @@ pub mod Held
 pub mod Begins
 pub mod Conversions
 pub mod Order
+pub mod Answers

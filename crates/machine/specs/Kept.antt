@@ -1,4 +1,4 @@
--- Ticks, pins, resets and the page keep a working board working; a fresh board is working, and is as after RESETA.
+-- Ticks, pins, resets and the page keep a working board working; a fresh board is working.
 use Prim.Native.Nat.{ℕ, _≤_, _%_}
 use mathlib.Core.Path.{_≡_, refl}
 use mathlib.Core.Bool.{Bool, true, false}

@@ -1,5 +1,4 @@
--- The specification, "Marked for proof (as one table)": each board case starts fresh, with what it says besides. Case 11, of the collector, is
--- not in it yet.
+-- The specification, "Marked for proof (as one table)": each board case starts fresh, with what it says besides.
 use Prim.Native.Nat.{ℕ, _+_, _*_, _^_}
 use mathlib.Core.Path.{_≡_, refl}
 use mathlib.Core.Bool.{Bool, true, false}
@@ -33,6 +32,10 @@ use Rattle.board.specs.declared.Event.the-variants.{WriteByte, ReadByte, ReadWo
 use Rattle.volts.specs.declared.Voltage.the-variants.{Volts}
 use Rattle.volts.specs.Volts.{readingOf, voltage}
 use Rattle.codes.specs.Output.{given, refused, outputOf, bytesOf}
+use Rattle.collector.specs.Settings.{startRefusal}
+use Rattle.collector.specs.Reply.{begun, started}
+use Rattle.collector.specs.Marked.{jumpersC}
+use Rattle.collector.specs.declared.Started.the-variants.{Begun, NotBegun}
 use Rattle.marked.specs.Runs.{fresh, full, after, answers, channels, conversions, outs, ticks}
 
 -- five of something, six, four: a list that is as long
@@ -84,9 +87,12 @@ pub record Marked : Type 0 where
   -- 10. Counter 0, mode 0, count 2: L L H H; count 65,535 after the fourth
   pub case-10 : outs four (after fresh (counter0 0x10 2)) ≡ false ∷ false ∷ true ∷ true ∷ []
   pub case-10-count : ticks four (after fresh (counter0 0x10 2)) .board .clocks .timer .counter0 .count .element ≡ 65535
+  -- 11. Jumpers C, 8-15 taken; 15-24 refused 12
+  pub case-11-taken : started (jumpersC 8 15) ≡ Begun (begun (jumpersC 8 15))
+  pub case-11-refused : started (jumpersC 15 24) ≡ NotBegun 12
 
 pub marked : Marked
-unfolding command wordRefused setupOf countedBy commanded pulsed gateMoved counterRead byteRefused byteWritten moved clockedIf gatesMoved controlRefused controlWritten countRefused countWritten timerRead pushed pushedTo poppedFrom flagBits nextChannel turned dividersTicked counter0Ticked counter1Ticked outputsTicked ticked countingWritten boardReset requestsCleared pageSet miscWritten placeOf byteAt afterRead readEffect writtenAt writeEffect writeChecks readChecks acted eepromActed eventChecks ran answered happened round
+unfolding started startRefusal command wordRefused setupOf countedBy commanded pulsed gateMoved counterRead byteRefused byteWritten moved clockedIf gatesMoved controlRefused controlWritten countRefused countWritten timerRead pushed pushedTo poppedFrom flagBits nextChannel turned dividersTicked counter0Ticked counter1Ticked outputsTicked ticked countingWritten boardReset requestsCleared pageSet miscWritten placeOf byteAt afterRead readEffect writtenAt writeEffect writeChecks readChecks acted eepromActed eventChecks ran answered happened round
 marked =
     record {
       case-1 = refl;
@@ -108,4 +114,6 @@ marked =
       case-9 = refl;
       case-10 = refl;
       case-10-count = refl;
+      case-11-taken = refl;
+      case-11-refused = refl;
     }

@@ -1,0 +1,11 @@
+-- `collector::steps::pass` meets its contract. Assumes nothing.
+use borrow.Author.Needs.{needs}
+use Rattle.collector.proofs.steps.pass.Statement.{statement}
+use Rattle.collector.proofs.steps.pass.Tie as tie
+
+pub pass-spec : {M : Type 1} → statement M
+pass-spec =
+    tie.close
+    (tie.spec
+    (λ c κs. search needs)
+    (λ c. simp (c .follow .ensures)))

@@ -1,0 +1,96 @@
+-- A drain as a whole (the specification, "The collector": "FF or OVF: 512 word reads handed over, a gap marked with the last, start again").
+use Prim.Native.Nat.{ℕ, suc, _+_, _-_, _≤_, _<_}
+use mathlib.Core.Path.{_≡_, refl, ap, subst, _∙_}
+use mathlib.Core.Bool.{Bool, true, false}
+use mathlib.Core.List.{List, [], _∷_, _++_, map}
+use native.Mathlib.Omega.{arith}
+use borrow.Author.Tests.{leb-true, leb-false}
+use lib.Dec.{eqb}
+use lib.ListN.{length}
+use Rattle.base.specs.Choice.{if_then_else_}
+use Rattle.collector.specs.declared.Settings.{Settings}
+use Rattle.collector.specs.declared.Collector.{Collector}
+use Rattle.collector.specs.declared.Sample.{Sample}
+use Rattle.collector.specs.declared.Phase.{Phase}
+use Rattle.collector.specs.declared.Phase.the-variants.{Drain}
+use Rattle.collector.specs.declared.Handed.{Handed}
+use Rattle.collector.specs.declared.Handed.the-variants.{OneSample}
+use Rattle.collector.specs.declared.Taken.{Taken}
+use Rattle.collector.specs.Phases.{number, phaseOf}
+use Rattle.collector.specs.Answers.{sampleAt}
+use Rattle.collector.specs.Fit.{FitCollector}
+use Rattle.collector.specs.Reply.{begun, draining, passed, reports, closes, replied}
+use Rattle.collector.specs.Handed.{samplesOf, gapMarked}
+use Rattle.collector.specs.Steps.{Step, step, drained, closed}
+use Rattle.collector.specs.Kept.{replied-fit, draining-fit}
+
+-- what these answers, one after the other, hand over, and the collector after them
+unfoldable pub handing : Collector → List ℕ → List Handed
+handing c [] = []
+handing c (a ∷ ws) = replied c a .handed ∷ handing (replied c a .collector) ws
+
+unfoldable pub ahead : Collector → List ℕ → Collector
+ahead c [] = c
+ahead c (a ∷ ws) = ahead (replied c a .collector) ws
+
+-- all samples of that
+abbrev pub samplesIn : List Handed → List Sample
+samplesIn [] = []
+samplesIn (h ∷ hs) = samplesOf h ++ samplesIn hs
+
+-- the words as samples, from a channel on, the channels in turn
+abbrev pub inTurn : Settings → ℕ → List ℕ → List Sample
+inTurn s channel [] = []
+inTurn s channel (a ∷ ws) = sampleAt channel a ∷ inTurn s (if eqb channel (s .high) then s .low else channel + 1) ws
+
+-- a gap with the last of them and with no other
+abbrev pub isEnd : List ℕ → Bool
+isEnd [] = true
+isEnd (a ∷ ws) = false
+
+abbrev pub gapAtEnd : List ℕ → List Bool
+gapAtEnd [] = []
+gapAtEnd (a ∷ ws) = isEnd ws ∷ gapAtEnd ws
+
+pub record Drained (c : Collector) (words : List ℕ) : Type 0 where
+  -- each word is handed over, with the channel whose turn it is
+  pub samples : samplesIn (handing c words) ≡ inTurn (c .settings) (c .next) words
+  -- a gap is marked with the last
+  pub gap : map (λ (h : Handed). gapMarked h) (handing c words) ≡ gapAtEnd words
+  -- and the collector starts again
+  pub again : ahead c words ≡ begun (c .settings)
+
+drain-last : (c : Collector) (a : ℕ) (r : Taken) → c .left ≤ 1 → Step c a Drain r → r ≡ closes c a
+drain-last c a r h (drained e) = absurd (let g : 1 < c .left = leb-false _ _ e in omega arith)
+drain-last c a r h (closed e) = refl
+
+drain-more : (c : Collector) (a : ℕ) (r : Taken) → 1 < c .left → Step c a Drain r
+    → r ≡ reports (passed c (number Drain) (c .left - 1)) (OneSample (sampleAt (c .next) a))
+drain-more c a r h (drained e) = refl
+drain-more c a r h (closed e) = absurd (let g : c .left ≤ 1 = leb-true _ _ e in omega arith)
+
+in-drain : (c : Collector) (a : ℕ) → FitCollector c → phaseOf (c .phase) ≡ Drain → Step c a Drain (replied c a)
+in-drain c a w e = subst (λ (p : Phase). Step c a p (replied c a)) e (step c a w)
+
+-- in a drain, as many words as are left
+pub drains : (c : Collector) (a : ℕ) (ws : List ℕ) → FitCollector c → phaseOf (c .phase) ≡ Drain → c .left ≡ suc (length ws) → Drained c (a ∷ ws)
+unfolding handing ahead phaseOf
+drains c a [] w e h =
+    let q = drain-last c a (replied c a) (omega arith) (in-drain c a w e) in
+    record { samples = rw q; gap = rw q; again = ap (λ (r : Taken). r .collector) q }
+drains c a (b ∷ bs) w e h =
+    let q = drain-more c a (replied c a) (omega arith) (in-drain c a w e) in
+    let d = passed c (number Drain) (c .left - 1) in
+    let f : FitCollector d = subst (λ (r : Taken). FitCollector (r .collector)) q (replied-fit c w a) in
+    let t = drains d b bs f refl (omega arith) in
+    record {
+      samples = rw q (ap (λ (l : List Sample). sampleAt (c .next) a ∷ l) (t .samples));
+      gap = rw q (ap (λ (l : List Bool). false ∷ l) (t .gap));
+      again = ap (λ (r : Taken). ahead (r .collector) (b ∷ bs)) q ∙ t .again;
+    }
+
+-- a full memory: 512 words
+pub full-drain : (c : Collector) (words : List ℕ) → FitCollector c → length words ≡ 512 → Drained (draining c) words
+unfolding phaseOf
+full-drain c [] w h = absurd (omega arith)
+full-drain c (a ∷ ws) w h = drains (draining c) a ws (draining-fit c w) refl (omega arith)

@@ -1,0 +1,125 @@
+-- The polls and the history (the specification, "The collector": "The polls reported equal the reads of offset 8 made since this start
+-- whose answers were taken. A restart counts anew"; "How firm the contracts are": "It shuts out an invented poll count, since that equals
+-- reads in the history").
+use Prim.Native.Nat.{ℕ, _≤_}
+use mathlib.Core.Path.{_≡_, refl, sym, ap, _∙_, subst}
+use mathlib.Core.Bool.{true}
+use Rattle.collector.specs.declared.Settings.{Settings}
+use Rattle.collector.specs.declared.Collector.{Collector}
+use Rattle.collector.specs.declared.Sample.{Sample}
+use Rattle.collector.specs.declared.Access.{Access}
+use Rattle.collector.specs.declared.Started.the-variants.{Begun}
+use Rattle.collector.specs.declared.Handed.the-variants.{LastSample}
+use Rattle.collector.specs.declared.Taken.{Taken}
+use Rattle.collector.specs.Phases.{phaseOf}
+use Rattle.collector.specs.Fit.{FitSettings, FitCollector}
+use Rattle.collector.specs.Reply.{begun, started, accessOf, replied}
+use Rattle.collector.specs.Steps.{step, access-fit}
+use Rattle.collector.specs.Kept.{begun-fit, started-begun, replied-fit}
+use Rattle.collector.specs.Counts.{countedOn, underway, step-counts, step-holds, step-within, gap-begins}
+
+-- ---- the history
+-- the answers brought to a collector, in order
+infixl 40 _▸_
+pub data Run : Type 0 where
+  begin : Run
+  _▸_ : Run → ℕ → Run
+
+-- the collector after them
+unfoldable pub after : Collector → Run → Collector
+after c begin = c
+after c (r ▸ a) = replied (after c r) a .collector
+
+-- an access made, the answer that was brought, and what became of it
+pub record Exchange : Type 0 where
+  pub access : Access
+  pub answer : ℕ
+  pub taken : Taken
+
+infixl 40 _and_
+pub data History : Type 0 where
+  none : History
+  _and_ : History → Exchange → History
+
+-- the next exchange of a collector
+abbrev pub exchange : Collector → ℕ → Exchange
+exchange c a = record { access = accessOf c; answer = a; taken = replied c a }
+
+unfoldable pub historyOf : Collector → Run → History
+historyOf c begin = none
+historyOf c (r ▸ a) = historyOf c r and exchange (after c r) a
+
+-- "the reads of offset 8 made since this start whose answers were taken"
+unfoldable pub pollsSince : History → ℕ
+pollsSince none = 0
+pollsSince (h and e) = countedOn (e .access) (e .taken .handed) (pollsSince h)
+
+-- ---- the theorems
+-- of a start with fit settings, after any run
+module _ (s : Settings) (f : FitSettings s) where
+  fit-after : (r : Run) → FitCollector (after (begun s) r)
+  unfolding after
+  fit-after begin = begun-fit s f
+  fit-after (r ▸ a) = replied-fit (after (begun s) r) (fit-after r) a
+
+  settings-after : (r : Run) → after (begun s) r .settings ≡ s
+  unfolding after
+  settings-after begin = refl
+  settings-after (r ▸ a) = step-holds _ a _ _ (step (after (begun s) r) a (fit-after r)) .0 ∙ settings-after r
+
+  reported : (r : Run) (a : ℕ) → (underway (phaseOf (after (begun s) r .phase)) ≡ true → after (begun s) r .polls ≡ pollsSince (historyOf (begun s) r))
+      → replied (after (begun s) r) a .polls ≡ pollsSince (historyOf (begun s) (r ▸ a))
+  unfolding pollsSince historyOf
+  reported r a h =
+      let c = after (begun s) r in
+      let w = fit-after r in
+      rw (access-fit c w) (step-counts c a (phaseOf (c .phase)) (replied c a) (pollsSince (historyOf (begun s) r)) (w .phase) h (step c a w))
+
+  held : (r : Run) → underway (phaseOf (after (begun s) r .phase)) ≡ true → after (begun s) r .polls ≡ pollsSince (historyOf (begun s) r)
+  unfolding after pollsSince historyOf
+  held begin u = refl
+  held (r ▸ a) u = step-holds _ a _ _ (step (after (begun s) r) a (fit-after r)) .1 u ∙ reported r a (held r)
+
+-- a run, and another one after it
+infixl 30 _then_
+unfoldable pub _then_ : Run → Run → Run
+r then begin = r
+r then (q ▸ a) = (r then q) ▸ a
+
+after-then : (c : Collector) (r q : Run) → after c (r then q) ≡ after (after c r) q
+unfolding after _then_
+after-then c r begin = refl
+after-then c r (q ▸ a) = ap (λ (d : Collector). replied d a .collector) (after-then c r q)
+
+-- A collector that a start gave, after any run of answers
+module _ (s : Settings) (c : Collector) (h : started s ≡ Begun c) where
+  -- it is fit, with the settings of its start
+  pub always-fit : (r : Run) → FitCollector (after c r)
+  always-fit r = let e = started-begun s c h in rw (e .0) (fit-after s (e .1) r)
+
+  pub same-settings : (r : Run) → after c r .settings ≡ s
+  same-settings r = let e = started-begun s c h in rw (e .0) (settings-after s (e .1) r)
+
+  -- the polls reported are the reads of offset 8 made since this start whose answers were taken
+  pub polls-are-reads : (r : Run) (a : ℕ) → replied (after c r) a .polls ≡ pollsSince (historyOf c (r ▸ a))
+  polls-are-reads r a = let e = started-begun s c h in rw (e .0) (reported s (e .1) r a (held s (e .1) r))
+
+  -- they are at most the limit
+  pub polls-within : (r : Run) (a : ℕ) → replied (after c r) a .polls ≤ s .limit
+  polls-within r a =
+      let d = after c r in
+      let w = always-fit r in
+      subst (λ (t : Settings). replied d a .polls ≤ t .limit) (same-settings r)
+      (step-within d a (phaseOf (d .phase)) (replied d a) (w .phase) (w .polls) (step d a w))
+
+  -- a restart counts anew: after a gap the collector is as at its start, and its polls are the reads from there on
+  pub gap-restarts : (r : Run) (a : ℕ) (y : Sample) → replied (after c r) a .handed ≡ LastSample y → after c (r ▸ a) ≡ c
+  unfolding after
+  gap-restarts r a y g =
+      let d = after c r in
+      gap-begins d a (phaseOf (d .phase)) (replied d a) y (step d a (always-fit r)) g
+      ∙ ap (λ (t : Settings). begun t) (same-settings r) ∙ sym (started-begun s c h .0)
+
+  pub counts-anew : (r : Run) (a : ℕ) (y : Sample) → replied (after c r) a .handed ≡ LastSample y
+      → (q : Run) (b : ℕ) → replied (after c ((r ▸ a) then q)) b .polls ≡ pollsSince (historyOf c (q ▸ b))
+  counts-anew r a y g q b = rw (after-then c (r ▸ a) q, gap-restarts r a y g) (polls-are-reads q b)

@@ -1,0 +1,106 @@
+-- A fit collector stays fit: a start makes a fit one, and every answer leaves one.
+use Prim.Native.Nat.{ℕ, _+_, _-_, _≤_, _<_}
+use mathlib.Core.Path.{_≡_, refl}
+use mathlib.Core.Bool.{Bool, true, false}
+use native.Mathlib.Omega.{arith}
+use borrow.Author.Tests.{eqb-true, eqb-false, leb-true, leb-false}
+use lib.Dec.{eqb, leb}
+use Rattle.base.specs.Choice.{if_then_else_}
+use Rattle.base.specs.Laws.{by-test}
+use Rattle.collector.specs.declared.Settings.{Settings}
+use Rattle.collector.specs.declared.Collector.{Collector}
+use Rattle.collector.specs.declared.Phase.{Phase}
+use Rattle.collector.specs.declared.Phase.the-variants.{Stop, Poll, Range, Clear, Low, High, Go, Look, Take, Drain, Stuck}
+use Rattle.collector.specs.declared.Started.the-variants.{Begun, NotBegun}
+use Rattle.collector.specs.declared.Taken.{Taken}
+use Rattle.collector.specs.Settings.{startRefusal}
+use Rattle.collector.specs.Phases.{number, phaseOf}
+use Rattle.collector.specs.Fit.{FitSettings, FitIn, FitCollector}
+use Rattle.collector.specs.Joined.{settings-of, settings-to}
+use Rattle.collector.specs.Reply.{begun, started, entered, counted, draining, following, passed, replied}
+use Rattle.collector.specs.Steps.{Step, step}
+use Rattle.collector.specs.Steps.{stopped, poll-wide, poll-free, poll-again, poll-last, ranged, cleared, lowered, raised, went}
+use Rattle.collector.specs.Steps.{look-wide, look-contradicts, look-empty, look-full, look-few, taken, drained, closed, stands}
+
+-- ---- a start
+pub begun-fit : (s : Settings) → FitSettings s → FitCollector (begun s)
+unfolding phaseOf
+begun-fit s f = record { settings = f; from-low = omega arith; to-high = f .order; polls = omega arith; phase = refl }
+
+-- a start that is taken is the first record of fit settings
+pub started-begun : (s : Settings) (c : Collector) → started s ≡ Begun c → (c ≡ begun s) × FitSettings s
+unfolding started
+started-begun s c h = from (eqb (startRefusal s) 0) refl h
+  where
+    from : (b : Bool) → eqb (startRefusal s) 0 ≡ b → (if b then Begun (begun s) else NotBegun (startRefusal s)) ≡ Begun c
+        → (c ≡ begun s) × FitSettings s
+    from true e g = (cc, settings-of s (eqb-true _ _ e))
+    from false e g = absurd (let z : _≡_ {A = ℕ} 0 1 = cc in omega arith)
+
+-- fit settings are taken
+pub started-fit : (s : Settings) → FitSettings s → started s ≡ Begun (begun s)
+unfolding started
+started-fit s f = rw (settings-to s f)
+
+module _ (c : Collector) (w : FitCollector c) where
+  -- ---- the parts of a step
+  entered-fit : (n : ℕ) → FitIn (phaseOf n) (entered c n) → FitCollector (entered c n)
+  entered-fit n f = record { settings = w .settings; from-low = w .from-low; to-high = w .to-high; polls = w .polls; phase = f }
+
+  counted-fit : (n : ℕ) → c .polls < c .settings .limit → FitIn (phaseOf n) (counted c n) → FitCollector (counted c n)
+  counted-fit n h f = record { settings = w .settings; from-low = w .from-low; to-high = w .to-high; polls = omega arith; phase = f }
+
+  pub draining-fit : FitCollector (draining c)
+  unfolding phaseOf
+  draining-fit =
+      record { settings = w .settings; from-low = w .from-low; to-high = w .to-high; polls = w .polls; phase = (omega arith, omega arith) }
+
+  following-from : c .settings .low ≤ following c
+  following-from =
+      by-test (λ (n : ℕ). c .settings .low ≤ n) (eqb (c .next) (c .settings .high)) (λ e. omega arith)
+      (λ e. let a : c .settings .low ≤ c .next = w .from-low in omega arith)
+
+  following-to : following c ≤ c .settings .high
+  following-to =
+      by-test (λ (n : ℕ). n ≤ c .settings .high) (eqb (c .next) (c .settings .high)) (λ e. w .settings .order)
+      (λ e. above (c .next) (c .settings .high) (w .to-high) (eqb-false _ _ e))
+    where
+      above : (m n : ℕ) → m ≤ n → (m ≡ n → ⊥) → m + 1 ≤ n
+      above m n h f = by (leb (m + 1) n) refl
+        where
+          by : (b : Bool) → leb (m + 1) n ≡ b → m + 1 ≤ n
+          by true t = leb-true _ _ t
+          by false t = absurd (f (let g : n < m + 1 = leb-false (m + 1) n t in omega arith))
+
+  passed-fit : (n left : ℕ) → FitIn (phaseOf n) (passed c n left) → FitCollector (passed c n left)
+  passed-fit n left f =
+      record { settings = w .settings; from-low = following-from; to-high = following-to; polls = w .polls; phase = f }
+
+  -- ---- every step
+  kept : (a : ℕ) (p : Phase) (r : Taken) → FitIn p c → Step c a p r → FitCollector (r .collector)
+  unfolding phaseOf
+  kept a Stop r f stopped =
+      entered-fit (number Poll) (let k : 1 ≤ c .settings .limit = w .settings .some-polls in let z : c .polls ≡ 0 = f in omega arith)
+  kept a Poll r f (poll-wide e) = w
+  kept a Poll r f (poll-free e t) = counted-fit (number Range) f tt
+  kept a Poll r f (poll-again e t l) = counted-fit (number Poll) f (let g : c .polls + 1 < c .settings .limit = leb-false _ _ l in g)
+  kept a Poll r f (poll-last e t l) = counted-fit (number Stuck) f tt
+  kept a Range r f ranged = entered-fit (number Clear) tt
+  kept a Clear r f cleared = entered-fit (number Low) tt
+  kept a Low r f lowered = entered-fit (number High) tt
+  kept a High r f raised = entered-fit (number Go) tt
+  kept a Go r f went = entered-fit (number Look) tt
+  kept a Look r f (look-wide e) = w
+  kept a Look r f (look-contradicts e d) = w
+  kept a Look r f (look-empty e d t) = w
+  kept a Look r f (look-full e d t l) = draining-fit
+  kept a Look r f (look-few e d t l) = entered-fit (number Take) tt
+  kept a Take r f taken = passed-fit (number Look) (c .left) tt
+  kept a Drain r f (drained e) =
+      passed-fit (number Drain) (c .left - 1)
+      (let g : 1 < c .left = leb-false _ _ e in let h : c .left ≤ 512 = f .1 in (omega arith, omega arith))
+  kept a Drain r f (closed e) = begun-fit (c .settings) (w .settings)
+  kept a Stuck r f stands = w
+
+  pub replied-fit : (a : ℕ) → FitCollector (replied c a .collector)
+  replied-fit a = kept a (phaseOf (c .phase)) (replied c a) (w .phase) (step c a w)

@@ -1,0 +1,16 @@
+pub mod Settings
+pub mod Phases
+pub mod Answers
+pub mod Fit
+pub mod Reply
+pub mod Channels
+pub mod Joined
+pub mod Steps
+pub mod Kept
+pub mod Handed
+pub mod Counts
+pub mod History
+pub mod Table
+pub mod Marked
+pub mod Drains
+pub mod Unrefused

@@ -1,0 +1,147 @@
+-- The next access, as a table (the specification, "The collector": "Start: 9←0; read 8 until STS=0, each poll counted; 11←range code; 7←02;
+-- 2←low; 3←high; 9←02, or 03 for the internal clock. .. Then look: read 7. EF: look again. Not full: one word read .. FF or OVF: 512 word
+-- reads handed over, a gap marked with the last, start again"). It covers every phase and every answer of a fit collector; so none
+-- handles its first look and idles afterwards.
+use Prim.Native.Nat.{ℕ}
+use mathlib.Core.Path.{_≡_, refl, _∙_}
+use mathlib.Core.Bool.{Bool, _&&_}
+use mathlib.Core.List.{List, [], _∷_}
+use lib.Dec.{eqb, leb}
+use Rattle.base.specs.Choice.{if_then_else_}
+use Rattle.collector.specs.declared.Settings.{Settings}
+use Rattle.collector.specs.declared.Collector.{Collector}
+use Rattle.collector.specs.declared.Phase.{Phase}
+use Rattle.collector.specs.declared.Phase.the-variants.{Stop, Poll, Range, Clear, Low, High, Go, Look, Take, Drain, Stuck, Unknown}
+use Rattle.collector.specs.declared.Access.{Access}
+use Rattle.collector.specs.declared.Access.the-variants.{WriteByte, ReadByte, ReadWord, NoAccess}
+use Rattle.collector.specs.declared.Taken.{Taken}
+use Rattle.collector.specs.Settings.{clockByte}
+use Rattle.collector.specs.Phases.{number, phaseOf, accessIn}
+use Rattle.collector.specs.Answers.{wide, STS, EF, contradicts, isFull}
+use Rattle.collector.specs.Fit.{FitCollector}
+use Rattle.collector.specs.Reply.{lastPoll, accessOf, replied}
+use Rattle.collector.specs.Steps.{Step, step, access-fit}
+use Rattle.collector.specs.Steps.{stopped, poll-wide, poll-free, poll-again, poll-last, ranged, cleared, lowered, raised, went}
+use Rattle.collector.specs.Steps.{look-wide, look-contradicts, look-empty, look-full, look-few, taken, drained, closed, stands}
+use Rattle.collector.specs.Kept.{replied-fit}
+
+-- the kinds of answer
+pub data Kind : Type 0 where
+  -- an answer that decides nothing: to a write, or a word
+  any : Kind
+  above-255 : Kind
+  -- of a poll
+  STS=0 : Kind
+  STS=1 : Kind
+  STS=1-last : Kind
+  -- of a look: EF with HF or FF or OVF without FF; EF; FF or OVF; none of these
+  contradicting : Kind
+  empty : Kind
+  full : Kind
+  not-full : Kind
+  -- of a word read in a drain: more are left, or this is the last of the 512
+  more : Kind
+  last : Kind
+
+-- the kind of an answer to the access of a phase
+abbrev pub kindIn : Phase → Collector → ℕ → Kind
+kindIn Stop c a = any
+kindIn Poll c a = if wide a then above-255 else if STS a then if lastPoll c then STS=1-last else STS=1 else STS=0
+kindIn Range c a = any
+kindIn Clear c a = any
+kindIn Low c a = any
+kindIn High c a = any
+kindIn Go c a = any
+kindIn Look c a =
+    if wide a then above-255
+    else if contradicts a then contradicting
+    else if EF a then empty
+    else if isFull a then full
+    else not-full
+kindIn Take c a = any
+kindIn Drain c a = if leb (c .left) 1 then last else more
+kindIn Stuck c a = any
+kindIn Unknown c a = any
+
+pub record Row : Type 0 where
+  pub phase : Phase
+  pub answer : Kind
+  pub next : Access
+
+abbrev pub row : Phase → Kind → Access → Row
+row p k x = record { phase = p; answer = k; next = x }
+
+-- in this phase, after this answer, the next access
+abbrev pub table : Settings → List Row
+table s =
+    row Stop any (ReadByte 8)
+    ∷ row Poll above-255 (ReadByte 8)
+    ∷ row Poll STS=1 (ReadByte 8)
+    ∷ row Poll STS=1-last (NoAccess 15)
+    ∷ row Poll STS=0 (WriteByte 11 (s .range))
+    ∷ row Range any (WriteByte 7 2)
+    ∷ row Clear any (WriteByte 2 (s .low))
+    ∷ row Low any (WriteByte 3 (s .high))
+    ∷ row High any (WriteByte 9 (clockByte s))
+    ∷ row Go any (ReadByte 7)
+    ∷ row Look above-255 (ReadByte 7)
+    ∷ row Look contradicting (ReadByte 7)
+    ∷ row Look empty (ReadByte 7)
+    ∷ row Look not-full (ReadWord 0)
+    ∷ row Look full (ReadWord 0)
+    ∷ row Take any (ReadByte 7)
+    ∷ row Drain more (ReadWord 0)
+    ∷ row Drain last (WriteByte 9 0)
+    ∷ row Stuck any (NoAccess 15)
+    ∷ []
+
+-- the table has one row for a phase and a kind of answer: the kinds by number, so that rows can be told apart
+abbrev kindNumber : Kind → ℕ
+kindNumber any = 0
+kindNumber above-255 = 1
+kindNumber STS=0 = 2
+kindNumber STS=1 = 3
+kindNumber STS=1-last = 4
+kindNumber contradicting = 5
+kindNumber empty = 6
+kindNumber full = 7
+kindNumber not-full = 8
+kindNumber more = 9
+kindNumber last = 10
+
+abbrev is : Row → Phase → Kind → Bool
+is r p k = eqb (number (r .phase)) (number p) && eqb (kindNumber (r .answer)) (kindNumber k)
+
+-- what the rows give as the next access: that of the first row for the phase and the kind of answer
+abbrev pub given : List Row → Phase → Kind → Access
+given [] p k = NoAccess 0
+given (r ∷ rs) p k = if is r p k then r .next else given rs p k
+
+in-table : (c : Collector) (a : ℕ) (p : Phase) (r : Taken) → phaseOf (c .phase) ≡ p → Step c a p r
+    → accessIn (phaseOf (r .collector .phase)) (r .collector .settings) ≡ given (table (c .settings)) p (kindIn p c a)
+unfolding phaseOf
+in-table c a Stop r q stopped = refl
+in-table c a Poll r q (poll-wide e) = rw (e, q)
+in-table c a Poll r q (poll-free e t) = rw (e, t)
+in-table c a Poll r q (poll-again e t l) = rw (e, t, l)
+in-table c a Poll r q (poll-last e t l) = rw (e, t, l)
+in-table c a Range r q ranged = refl
+in-table c a Clear r q cleared = refl
+in-table c a Low r q lowered = refl
+in-table c a High r q raised = refl
+in-table c a Go r q went = refl
+in-table c a Look r q (look-wide e) = rw (e, q)
+in-table c a Look r q (look-contradicts e d) = rw (e, d, q)
+in-table c a Look r q (look-empty e d t) = rw (e, d, t, q)
+in-table c a Look r q (look-full e d t l) = rw (e, d, t, l)
+in-table c a Look r q (look-few e d t l) = rw (e, d, t, l)
+in-table c a Take r q taken = refl
+in-table c a Drain r q (drained e) = rw e
+in-table c a Drain r q (closed e) = rw e
+in-table c a Stuck r q stands = rw q
+
+-- The theorem: whatever a fit collector's phase and whatever answer comes, its next access is the one that the table gives.
+pub next-access : (c : Collector) (a : ℕ) → FitCollector c
+    → accessOf (replied c a .collector) ≡ given (table (c .settings)) (phaseOf (c .phase)) (kindIn (phaseOf (c .phase)) c a)
+next-access c a w =
+    access-fit (replied c a .collector) (replied-fit c w a) ∙ in-table c a (phaseOf (c .phase)) (replied c a) refl (step c a w)
