@@ -5,16 +5,17 @@ use Prim.Native.Nat.{ℕ}
 use mathlib.Core.List.{List}
 use Rattle.fifo.specs.Queue.{pushedTo}
 use Rattle.converter.specs.Channels.{ended, isLast}
-use Rattle.converter.specs.Requests.{askedAd}
+use Rattle.requests.specs.Requests.{askedAd}
 use Rattle.converter.specs.Codes.{sampleOf}
-use Rattle.calibration.specs.Transfers as transfers
+use Rattle.calibration_end.specs.Ends as transfers
 use Rattle.machine.specs.Parts.{withConverter, withRequests, withCalibration}
-use Rattle.machine.specs.Clock.{ticked}
-use Rattle.machine.specs.Pins.{dinSet, latchSet, portSet}
+use Rattle.machine_tick.specs.Tick.{ticked}
+use Rattle.machine_pins.specs.Pins.{dinSet, latchSet, portSet}
 use Rattle.machine.specs.declared.Board.{Board}
 use Rattle.bus.specs.Place.{placeOf}
-use Rattle.bus.specs.Read.{byteAt, afterRead, readEffect}
-use Rattle.bus.specs.Write.{writtenAt, writeEffect}
+use Rattle.bus.specs.Effects.{readEffect, writeEffect}
+use Rattle.bus_read.specs.Read.{byteAt, afterRead}
+use Rattle.bus_write.specs.Write.{writtenAt}
 use Rattle.bus.specs.declared.Place.{Place}
 use Rattle.bus.specs.declared.Effect.{Effect}
 use Rattle.bus.specs.declared.Effect.the-variants.{Keep, Take, Store, Empty}

@@ -10,9 +10,10 @@ use Rattle.timer.specs.declared.Timer.{Timer}
 use Rattle.timer.specs.declared.Select.the-variants.{Counter1, Counter2}
 use Rattle.timer.specs.declared.Written.{Written}
 use Rattle.timer.specs.declared.Written.the-variants.{Accepted, Refused}
-use Rattle.machine.specs.Clock.{gates, clock1, dividersTicked, counter0Ticked}
-use Rattle.machine.specs.Pins.{fellFrom, dinMoved, triggersStopped}
-use Rattle.machine.specs.Reset.{isReset}
+use Rattle.machine_clock.specs.Clock.{gates}
+use Rattle.machine_tick.specs.Tick.{clock1, dividersTicked, counter0Ticked}
+use Rattle.machine_pins.specs.Pins.{fellFrom, dinMoved, triggersStopped}
+use Rattle.machine_reset.specs.Reset.{isReset}
 use Rattle.machine.specs.declared.Board.{Board}
 use Rattle.bus.specs.Place.{placeOf}
 use Rattle.bus.specs.declared.Place.{Place}

@@ -16,13 +16,14 @@ use Rattle.timer.specs.declared.Gates.{Gates}
 use Rattle.timer.specs.declared.Select.the-variants.{Counter0, Counter1, Counter2}
 use Rattle.timer.specs.declared.Written.{Written}
 use Rattle.timer.specs.declared.Written.the-variants.{Accepted, Refused}
-use Rattle.machine.specs.Clock.{gates, clock0, clock1, turned, turnedBy, dividersTicked, counter0Ticked, counter1Ticked, outputsTicked, ticked, countingWritten}
-use Rattle.machine.specs.Pins.{fellFrom, dinMoved, din0Clocked, triggersStopped, din3Triggered, dinSet, latchSet, portSet}
-use Rattle.machine.specs.Reset.{isReset, boardReset, requestsCleared, pageSet, miscWritten}
+use Rattle.machine_clock.specs.Clock.{gates, turned, turnedBy, countingWritten}
+use Rattle.machine_tick.specs.Tick.{clock0, clock1, dividersTicked, counter0Ticked, counter1Ticked, outputsTicked, ticked}
+use Rattle.machine_pins.specs.Pins.{fellFrom, dinMoved, din0Clocked, triggersStopped, din3Triggered, dinSet, latchSet, portSet}
+use Rattle.machine_reset.specs.Reset.{isReset, boardReset, requestsCleared, pageSet, miscWritten}
 use Rattle.machine.specs.declared.Board.{Board}
 use Rattle.bus.specs.Place.{placeOf}
-use Rattle.bus.specs.Read.{afterRead}
-use Rattle.bus.specs.Write.{writtenAt}
+use Rattle.bus_read.specs.Read.{afterRead}
+use Rattle.bus_write.specs.Write.{writtenAt}
 use Rattle.bus.specs.declared.Place.{Place}
 use Rattle.bus.specs.declared.Place.the-variants.{Start, Digital, LowChannel, HighChannel, DacLeast, DacMost, Depth, FifoControl}
 use Rattle.bus.specs.declared.Place.the-variants.{Miscellaneous, Operation, CounterControl, Analog, Count, ControlWord, PortData, PortControl}
@@ -55,7 +56,7 @@ turned-same : (b : Board) (t : Timer) → out t Counter2 ≡ out (b .clocks .tim
 unfolding turned
 turned-same b t h = rw (h, no-fall (out (b .clocks .timer) Counter2), no-edge (b .converter .clken) (b .requests .clksel) false)
 
-counter0-same : (b : Board) → counter0Ticked (dividersTicked b) .converter ≡ b .converter
+pub counter0-same : (b : Board) → counter0Ticked (dividersTicked b) .converter ≡ b .converter
 unfolding counter0Ticked dividersTicked
 counter0-same b = turned-same _ _ (out2-stays (b .clocks .timer) _ _)
 
@@ -100,7 +101,7 @@ write-begun b CalKey v h = never h
 write-begun b Outside v h = never h
 
 -- the converter after DIN levels and after a tick: a trigger, where there is one
-din-triggered : (b : Board) (n : ℕ)
+pub din-triggered : (b : Board) (n : ℕ)
     → dinSet b n .converter
     ≡ clockTriggered (b .converter) (b .requests .clksel) false (fellFrom (b .pins .din) n 8) (triggersStopped (dinMoved b n))
 unfolding dinSet din3Triggered din0Clocked dinMoved turned
@@ -118,7 +119,7 @@ tick-begun b h =
     let c = counter0Ticked (dividersTicked b) in
     trigger-begins (c .converter) (out2Trigger c (clocked1 c)) h ∙ ap started (counter0-same b)
 
-tick-lost : (b : Board) → tickBegins b ≡ false → ticked b .converter ≡ b .converter
+pub tick-lost : (b : Board) → tickBegins b ≡ false → ticked b .converter ≡ b .converter
 unfolding ticked outputsTicked counter1Ticked turned
 tick-lost b h =
     let c = counter0Ticked (dividersTicked b) in

@@ -17,18 +17,22 @@ use Rattle.fifo.specs.Queue.Laws.{queue-push, push-works, queue-pop, pop-works,
 use Rattle.fifo.specs.declared.Fifo.{Fifo}
 use Rattle.converter.specs.Working.{ended-works}
 use Rattle.calibration.specs.Laws as calibration
-use Rattle.calibration.specs.Transfers.{eepromEnded}
-use Rattle.counting.specs.Control.{command, setupOf}
+use Rattle.calibration_end.specs.Laws as ends
+use Rattle.calibration_end.specs.Ends.{eepromEnded}
+use Rattle.counting_modes.specs.Control.{command, setupOf}
 use Rattle.counting.specs.Counter.{gateMoved}
 use Rattle.timer.specs.Timer.{gatesMoved}
 use Rattle.machine.specs.Fresh.{freshBoard}
-use Rattle.machine.specs.Reset.{boardReset}
+use Rattle.machine_reset.specs.Reset.{boardReset}
 use Rattle.machine.specs.Working.{WorkingMachine}
-use Rattle.machine.specs.Kept.{converter-kept, calibration-kept, same-working, ticked-works, din-works, latch-works, port-works, fresh-working}
+use Rattle.machine.specs.Kept.{converter-kept, calibration-kept, same-working, fresh-working}
+use Rattle.machine_tick.specs.Kept.{ticked-works}
+use Rattle.machine_pins.specs.Kept.{din-works, latch-works, port-works}
 use Rattle.machine.specs.declared.Board.{Board}
 use Rattle.machine.specs.declared.Jumpers.{Jumpers}
 use Rattle.bus.specs.Place.{placeOf}
-use Rattle.bus.specs.Kept.{written-works, read-works}
+use Rattle.bus_write.specs.Kept.{written-works}
+use Rattle.bus_read.specs.Kept.{read-works}
 use Rattle.bus.specs.declared.Effect.{Effect}
 use Rattle.bus.specs.declared.Effect.the-variants.{Keep, Take, Store, Empty}
 use Rattle.board.specs.Working.{WorkingBoard}
@@ -53,7 +57,7 @@ acted-works b o e (DinPins d) w h = din-works b (d .lines) (din-in-range b d h) 
 acted-works b o e (LatchLevel high) w h = latch-works b high w
 acted-works b o e (PortPins q v) w h = port-works b q v w
 acted-works b o e Tick w h = ticked-works b w
-acted-works b o e TransferEnd w h = calibration-kept b w _ (calibration.ended-works (b .calibration) e (w .calibration))
+acted-works b o e TransferEnd w h = calibration-kept b w _ (ends.ended-works (b .calibration) e (w .calibration))
 
 -- ---- the sample memory
 module _ (f : Fifo) (m : List ℕ) (w : WorkingFifo f m) where
@@ -97,7 +101,7 @@ eeprom-long b e (DinPins d) = refl
 eeprom-long b e (LatchLevel high) = refl
 eeprom-long b e (PortPins q v) = refl
 eeprom-long b e Tick = refl
-eeprom-long b e TransferEnd = calibration.eeprom-length (b .calibration) e
+eeprom-long b e TransferEnd = ends.eeprom-length (b .calibration) e
 
 -- ---- any event
 module _ (b : Board) (m e : List ℕ) (ev : Event) where

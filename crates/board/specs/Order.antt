@@ -9,7 +9,7 @@ use Rattle.base.specs.Choice.{if_then_else_}
 use Rattle.base.specs.Checks.{Check, _refuses_}
 use Rattle.machine.specs.declared.Board.{Board}
 use Rattle.bus.specs.Place.{placeOf}
-use Rattle.bus.specs.Refusals.{writeChecks, readChecks}
+use Rattle.bus_refusal.specs.Refusals.{writeChecks, readChecks}
 use Rattle.bus.specs.declared.Place.{Place}
 use Rattle.bus.specs.declared.Place.the-variants.{Start, Digital, LowChannel, HighChannel, DacLeast, DacMost, Depth, FifoControl}
 use Rattle.bus.specs.declared.Place.the-variants.{Miscellaneous, Operation, CounterControl, Analog, Count, ControlWord, PortData, PortControl}

@@ -9,7 +9,7 @@ use Rattle.base.specs.Checks.{Check, _refuses_}
 use Rattle.calibration.specs.Registers.{nothingRuns}
 use Rattle.machine.specs.declared.Board.{Board}
 use Rattle.bus.specs.Place.{placeOf}
-use Rattle.bus.specs.Refusals.{writeChecks, readChecks}
+use Rattle.bus_refusal.specs.Refusals.{writeChecks, readChecks}
 use Rattle.board.specs.Working.{workingBoard}
 use Rattle.board.specs.declared.Event.{Event}
 use Rattle.board.specs.declared.Event.the-variants.{WriteByte, ReadByte, ReadWord, ConversionEnd, DinPins, LatchLevel, PortPins, Tick, TransferEnd}

@@ -8,7 +8,7 @@ use machine::Board;
 ghost use mathlib.Core.Path.{_≡_};
 ghost use Prim.Native.Nat.{_≤_};
 ghost use lib.ListN.{length};
-ghost use Rattle.calibration.specs.Transfers.{eepromEnded};
+ghost use Rattle.calibration_end.specs.Ends.{eepromEnded};
 ghost use Rattle.machine.specs.Working.{WorkingMachine};
 ghost use Rattle.board.specs.Act.{writeActed, readActed, wordActed, endActed, doneActed, transferEnded, acted, eepromActed};
 
@@ -16,9 +16,9 @@ fn write(b: Board, p: Place, v: u8) -> Acted
     ensures { λ r. ⌜ r ≡ writeActed b p v ⌝ }
 {
     Acted {
-        board: bus::write::write_at(b, p, v),
+        board: bus_write::write_at(b, p, v),
         answer: Answer::Done,
-        effect: bus::write::write_effect(p, v),
+        effect: bus::samples::write_effect(p, v),
     }
 }
 
@@ -26,9 +26,9 @@ fn read(b: Board, oldest: u16, p: Place) -> Acted
     ensures { λ r. ⌜ r ≡ readActed b oldest p ⌝ }
 {
     Acted {
-        board: bus::read::after_read(b, p),
-        answer: Answer::Byte(bus::read::byte_at(b, oldest, p)),
-        effect: bus::read::read_effect(p),
+        board: bus_read::after_read(b, p),
+        answer: Answer::Byte(bus_read::byte_at(b, oldest, p)),
+        effect: bus::samples::read_effect(p),
     }
 }
 
@@ -49,7 +49,7 @@ fn end(b: Board, sample: u16) -> Acted
     let last = converter::channels::is_last(b.converter);
     let held = fifo::held_after_push(b.fifo);
     let mut c = b;
-    c.requests = converter::requests::ask_ad(b.requests, last, held);
+    c.requests = requests::ask_ad(b.requests, last, held);
     c.converter = converter::channels::end(b.converter);
     Acted {
         board: c,
@@ -73,7 +73,7 @@ fn end_transfer(b: Board, eeprom: &mut [u8]) -> Board
     ensures { λ r. ⌜ r ≡ transferEnded b (now (eeprom .entry)) ⌝ }
     ensures { λ r. ⌜ now (eeprom .exit) ≡ eepromEnded (b .calibration) (now (eeprom .entry)) ⌝ }
 {
-    let ended = calibration::end_transfer(b.calibration, eeprom);
+    let ended = calibration_end::end_transfer(b.calibration, eeprom);
     let mut c = b;
     c.calibration = ended;
     c
@@ -94,10 +94,10 @@ pub fn act(b: Board, oldest: u16, eeprom: &mut [u8], event: Event) -> Acted
         Event::ReadByte { offset } => read(b, oldest, bus::map::find(b.registers.page, offset)),
         Event::ReadWord { offset: _ } => word(b, oldest),
         Event::ConversionEnd { code } => end(b, converter::codes::sample(code)),
-        Event::DinPins(d) => done(machine::edges::set_din(b, d.lines)),
-        Event::LatchLevel { high } => done(machine::edges::set_latch(b, high)),
-        Event::PortPins(q, v) => done(machine::edges::set_port(b, q, v)),
-        Event::Tick => done(machine::clock::tick(b)),
+        Event::DinPins(d) => done(machine_pins::set_din(b, d.lines)),
+        Event::LatchLevel { high } => done(machine_pins::set_latch(b, high)),
+        Event::PortPins(q, v) => done(machine_pins::set_port(b, q, v)),
+        Event::Tick => done(machine_tick::tick(b)),
         Event::TransferEnd => done(end_transfer(b, eeprom)),
     }
 }

@@ -97,22 +97,22 @@ fn event_refusal(board: Board, event: Event) -> u8
     ensures { λ r. ⌜ r ≡ refusal (eventChecks board event) ⌝ }
 {
     match event {
-        Event::WriteByte { offset, value } => bus::refusal::of_write(
+        Event::WriteByte { offset, value } => bus_refusal::of_write(
             board,
             bus::map::find(board.registers.page, offset),
             value,
         ),
-        Event::ReadByte { offset } => bus::refusal::of_read(bus::map::find(
+        Event::ReadByte { offset } => bus_refusal::of_read(bus::map::find(
             board.registers.page,
             offset,
         )),
-        Event::ReadWord { offset } => bus::refusal::number_if(offset != 0, 3),
-        Event::ConversionEnd { code: _ } => bus::refusal::number_if(!board.converter.converting, 4),
-        Event::DinPins(d) => bus::refusal::number_if(d.lines > 15, 5),
+        Event::ReadWord { offset } => bus_refusal::number_if(offset != 0, 3),
+        Event::ConversionEnd { code: _ } => bus_refusal::number_if(!board.converter.converting, 4),
+        Event::DinPins(d) => bus_refusal::number_if(d.lines > 15, 5),
         Event::LatchLevel { high: _ } => 0,
         Event::PortPins(_, _) => 0,
         Event::Tick => 0,
-        Event::TransferEnd => bus::refusal::number_if(calibration::is_idle(board.calibration), 10),
+        Event::TransferEnd => bus_refusal::number_if(calibration::is_idle(board.calibration), 10),
     }
 }
 

@@ -2,7 +2,7 @@
 use board::Answer;
 use board::Board;
 use board::Event;
-use board::Jumpers;
+use board_host::view;
 use libc::STDOUT_FILENO;
 
 pub struct Bench {
@@ -10,15 +10,6 @@ pub struct Bench {
     pub places: usize,
     pub bytes: usize,
     pub code: u16,
-}
-
-fn jumpers_of(n: u32) -> Jumpers {
-    match n {
-        0 => Jumpers::A,
-        1 => Jumpers::B,
-        2 => Jumpers::C,
-        _ => Jumpers::D,
-    }
 }
 
 fn clear(memory: &mut [u16], eeprom: &mut [u8], places: usize, bytes: usize) {
@@ -33,34 +24,11 @@ fn clear(memory: &mut [u16], eeprom: &mut [u8], places: usize, bytes: usize) {
 pub fn start(memory: &mut [u16], eeprom: &mut [u8], jumpers: u32, zero_scale: bool) -> Bench {
     clear(memory, eeprom, 512, 128);
     Bench {
-        board: board::fresh(jumpers_of(jumpers), zero_scale),
+        board: board::fresh(panel::jumpers_of(jumpers), zero_scale),
         places: 512,
         bytes: 128,
         code: 0,
     }
-}
-
-pub fn show_byte(v: u8) {
-    let shown = [b' ', script::hex_digit(v / 16), script::hex_digit(v)];
-    io::write_all(STDOUT_FILENO, &shown);
-}
-
-pub fn show_word(v: u16) {
-    io::write_all(STDOUT_FILENO, b" ");
-    show_digits(v);
-}
-
-// Four hex digits.
-pub fn show_digits(v: u16) {
-    let high = (v / 256) as u8;
-    let low = (v % 256) as u8;
-    let shown = [
-        script::hex_digit(high / 16),
-        script::hex_digit(high),
-        script::hex_digit(low / 16),
-        script::hex_digit(low),
-    ];
-    io::write_all(STDOUT_FILENO, &shown);
 }
 
 fn show_refusal(n: u8) {
@@ -71,8 +39,8 @@ fn show_refusal(n: u8) {
 fn show(answer: Answer) {
     match answer {
         Answer::Done => {}
-        Answer::Byte(v) => show_byte(v),
-        Answer::Word(v) => show_word(v),
+        Answer::Byte(v) => view::show_byte(v),
+        Answer::Word(v) => view::show_word(v),
         Answer::Refused(n) => show_refusal(n),
     }
 }

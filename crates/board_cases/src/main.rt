@@ -2,8 +2,6 @@
 // mid-scale, with fresh stores. The operations are in operations.rt, the line language in the crate script.
 mod bench;
 mod operations;
-mod spoil;
-mod view;
 
 use bench::Bench;
 use libc::STDOUT_FILENO;

@@ -4,38 +4,52 @@
 //   conversions, whose codes count on; mOOHH, hOOOOHHHH the host sets a place of EEPROM, of sample memory; zNN spoils the board; y, q show it.
 use super::bench;
 use super::bench::Bench;
-use super::spoil;
-use super::view;
 use board::Din;
 use board::Event;
-use board::Port;
+use board_host::spoil;
+use board_host::view;
 
-fn port_of(n: u32) -> Port {
-    match n {
-        0 => Port::PortA,
-        1 => Port::PortB,
-        _ => Port::PortC,
+// What an operation asks for: one event, so many ticks, so many conversions, or a thing that the host does.
+enum Act {
+    One(Event),
+    ManyTicks(u32),
+    ManyConversions(u32),
+    ByHost,
+}
+
+fn write_of(value: u32) -> Event {
+    Event::WriteByte {
+        offset: (value / 256 % 256) as u8,
+        value: (value % 256) as u8,
     }
 }
 
-fn write(b: Bench, memory: &mut [u16], eeprom: &mut [u8], value: u32) -> Bench {
-    let event = Event::WriteByte {
-        offset: (value / 256 % 256) as u8,
-        value: (value % 256) as u8,
-    };
-    bench::happen(b, memory, eeprom, event)
-}
-
-fn end(b: Bench, memory: &mut [u16], eeprom: &mut [u8], bits: u16) -> Bench {
-    let event = Event::ConversionEnd {
+fn end_of(bits: u16) -> Event {
+    Event::ConversionEnd {
         code: converter::codes::code(bits),
-    };
-    bench::happen(b, memory, eeprom, event)
+    }
 }
 
-fn port_pins(b: Bench, memory: &mut [u16], eeprom: &mut [u8], value: u32) -> Bench {
-    let event = Event::PortPins(port_of(value / 256 % 16), (value % 256) as u8);
-    bench::happen(b, memory, eeprom, event)
+fn port_pins_of(value: u32) -> Event {
+    Event::PortPins(panel::port_of(value / 256 % 16), (value % 256) as u8)
+}
+
+// What a letter asks for with a value.
+fn act_of(letter: u8, value: u32) -> Act {
+    let low = (value % 256) as u8;
+    match letter {
+        b'w' => Act::One(write_of(value)),
+        b'r' => Act::One(Event::ReadByte { offset: low }),
+        b'x' => Act::One(Event::ReadWord { offset: low }),
+        b'e' => Act::One(end_of((value % 65536) as u16)),
+        b'd' => Act::One(Event::DinPins(Din { lines: low })),
+        b'l' => Act::One(Event::LatchLevel { high: low == 1 }),
+        b'p' => Act::One(port_pins_of(value)),
+        b'f' => Act::One(Event::TransferEnd),
+        b't' => Act::ManyTicks(value % 65536),
+        b'n' => Act::ManyConversions(value % 65536),
+        _ => Act::ByHost,
+    }
 }
 
 fn ticks(b: Bench, memory: &mut [u16], eeprom: &mut [u8], count: u32) -> Bench {
@@ -51,8 +65,8 @@ fn ticks(b: Bench, memory: &mut [u16], eeprom: &mut [u8], count: u32) -> Bench {
 
 // One software-triggered conversion and its end.
 fn convert(b: Bench, memory: &mut [u16], eeprom: &mut [u8]) -> Bench {
-    let c = write(b, memory, eeprom, 0);
-    let mut d = end(c, memory, eeprom, b.code);
+    let c = bench::happen(b, memory, eeprom, write_of(0));
+    let mut d = bench::happen(c, memory, eeprom, end_of(b.code));
     d.code = std::num::wrapping_add_u16(b.code, 1);
     d
 }
@@ -84,17 +98,37 @@ fn set_place(b: Bench, memory: &mut [u16], value: u32) -> Bench {
     b
 }
 
-fn pins_or_time(b: Bench, memory: &mut [u16], eeprom: &mut [u8], letter: u8, value: u32) -> Bench {
-    let low = (value % 256) as u8;
-    match letter {
-        b'd' => bench::happen(b, memory, eeprom, Event::DinPins(Din { lines: low })),
-        b'l' => bench::happen(b, memory, eeprom, Event::LatchLevel { high: low == 1 }),
-        b'p' => port_pins(b, memory, eeprom, value),
-        b't' => ticks(b, memory, eeprom, value % 65536),
-        b'f' => bench::happen(b, memory, eeprom, Event::TransferEnd),
-        b'n' => conversions(b, memory, eeprom, value % 65536),
-        _ => b,
+fn lend(b: Bench, places: usize, bytes: usize) -> Bench {
+    let mut c = b;
+    c.places = places;
+    c.bytes = bytes;
+    c
+}
+
+// The spoils 00 to 04 are of the stores.
+fn spoil_bench(b: Bench, n: u32) -> Bench {
+    match n {
+        0x00 => lend(b, 511, b.bytes),
+        0x01 => lend(b, 513, b.bytes),
+        0x02 => lend(b, 0, b.bytes),
+        0x03 => lend(b, b.places, 127),
+        0x04 => lend(b, b.places, 129),
+        _ => {
+            let mut c = b;
+            c.board = spoil::spoil_board(b.board, n);
+            c
+        }
     }
+}
+
+fn show_host(b: Bench) -> Bench {
+    view::show_host(b.board);
+    b
+}
+
+fn show_samples(b: Bench, memory: &[u16]) -> Bench {
+    view::show_samples(b.board.fifo, memory);
+    b
 }
 
 fn host(b: Bench, memory: &mut [u16], eeprom: &mut [u8], letter: u8, value: u32) -> Bench {
@@ -102,21 +136,19 @@ fn host(b: Bench, memory: &mut [u16], eeprom: &mut [u8], letter: u8, value: u32)
         b'b' => bench::start(memory, eeprom, value / 16 % 16, value % 16 == 1),
         b'm' => set_byte(b, eeprom, value),
         b'h' => set_place(b, memory, value),
-        b'z' => spoil::spoil(b, value),
-        b'y' => view::show_host(b),
-        b'q' => view::show_samples(b, memory),
-        _ => pins_or_time(b, memory, eeprom, letter, value),
+        b'z' => spoil_bench(b, value),
+        b'y' => show_host(b),
+        b'q' => show_samples(b, memory),
+        _ => b,
     }
 }
 
 // Does the operation of a letter; another letter does nothing.
 pub fn perform(b: Bench, memory: &mut [u16], eeprom: &mut [u8], letter: u8, value: u32) -> Bench {
-    let low = (value % 256) as u8;
-    match letter {
-        b'w' => write(b, memory, eeprom, value),
-        b'r' => bench::happen(b, memory, eeprom, Event::ReadByte { offset: low }),
-        b'x' => bench::happen(b, memory, eeprom, Event::ReadWord { offset: low }),
-        b'e' => end(b, memory, eeprom, (value % 65536) as u16),
-        _ => host(b, memory, eeprom, letter, value),
+    match act_of(letter, value) {
+        Act::One(event) => bench::happen(b, memory, eeprom, event),
+        Act::ManyTicks(count) => ticks(b, memory, eeprom, count),
+        Act::ManyConversions(count) => conversions(b, memory, eeprom, count),
+        Act::ByHost => host(b, memory, eeprom, letter, value),
     }
 }

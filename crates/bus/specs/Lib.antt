@@ -1,5 +1,2 @@
 pub mod Place
-pub mod Read
-pub mod Write
-pub mod Refusals
-pub mod Kept
+pub mod Effects

@@ -1,10 +1,7 @@
-// The bus side of the board (manual, chapters 6 to 8): what an offset names on the current page, what a byte written there makes of the
-// record, what a read gives, and which accesses are refused. No function here sees the sample memory or the EEPROM: what an access does
-// to the samples is told as an effect.
+// The register map (manual, chapters 6 to 8): what an offset names on the current page, and what an access there does to the samples held.
+// What a read gives, what a byte written makes of the record and which accesses are refused stand in crates above.
 pub mod map;
-pub mod read;
-pub mod refusal;
-pub mod write;
+pub mod samples;
 
 use ports::Port;
 use timer::Select;

@@ -1,4 +1,3 @@
-pub mod Transfers
 pub mod Registers
 pub mod Working
 pub mod Laws

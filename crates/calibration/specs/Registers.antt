@@ -1,14 +1,14 @@
 -- The calibration registers (manual, 8.4, and page 3 of the register map in chapter 6; the specification, "Registers", page 3, and
 -- refusals 6, 8, 9, 10): writes, reads, what is refused, and resets.
-use mathlib.Core.Bool.{Bool, true, false, not, _&&_, _||_}
-use mathlib.Core.List.{List, [], _∷_}
+use mathlib.Core.Bool.{Bool, false, not, _&&_, _||_}
+use mathlib.Core.List.{[], _∷_}
 use Prim.Native.Nat.{ℕ, _+_, _%_}
 use lib.Dec.{eqb}
 use Rattle.base.specs.Choice.{if_then_else_}
 use Rattle.base.specs.Fields.{bit}
 use Rattle.base.specs.Weights.{weightOf}
 use Rattle.calibration.specs.declared.Calibration.{Calibration}
-use Rattle.calibration.specs.Transfers.{transferOf, runs, eepromBusy, trimDacBusy}
+use Rattle.transfers.specs.Transfers.{transferOf, runs, eepromBusy, trimDacBusy}
 
 -- ---- what is busy
 -- CALBUSY (Base+4 read): a transfer runs; then a write of 12, 13 or 14 is refused, number 6

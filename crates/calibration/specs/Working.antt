@@ -2,7 +2,7 @@
 -- eight values are any bytes. The facts, and the row of tests that the code makes of them.
 use mathlib.Core.Bool.{Bool}
 use mathlib.Core.List.{List, [], _∷_}
-use Prim.Native.Nat.{ℕ, _≤_}
+use Prim.Native.Nat.{_≤_}
 use lib.Dec.{leb}
 use Rattle.base.specs.Tests.{all}
 use Rattle.calibration.specs.declared.Calibration.{Calibration}

@@ -1,24 +1,10 @@
-// Calibration (manual, 8.4 and chapter 15; page 3 of the register map): the data and address registers, the key, the transfers
-// to and from EEPROM and TrimDAC. The EEPROM, 128 bytes, is lent. Each function's contract is a definition of
-// specs/Registers.antt or specs/Transfers.antt.
+// Calibration (manual, 8.4 and chapter 15; page 3 of the register map): the data and address registers, the key, the transfer that runs.
+// Each function's contract is a definition of specs/Registers.antt.
 ghost use mathlib.Core.Path.{_≡_};
-ghost use lib.ListN.{length};
-ghost use Rattle.calibration.specs.Transfers.{ended, eepromEnded};
 ghost use Rattle.calibration.specs.Registers.{calbusy, several, locked, controlRefusal, nothingRuns, eepromCommand, command};
 ghost use Rattle.calibration.specs.Registers.{valueWritten, addressWritten, controlWritten, keyWritten, keyForgotten};
 ghost use Rattle.calibration.specs.Registers.{valueRead, addressRead, statusRead, revision, resetCalibration, freshCalibration};
-ghost use Rattle.calibration.specs.Working.{calibrationWorks, WorkingCalibration};
-
-mod transfers; // transfers.rt: the kinds of transfer, and what each has done when it ends
-
-// What a command of register 14 starts.
-pub enum Transfer {
-    NoTransfer,
-    EepromRead,
-    EepromWrite,
-    RunCal,
-    TrimDac,
-}
+ghost use Rattle.calibration.specs.Working.{calibrationWorks};
 
 // Registers 12 and 13, the transfer that runs as a number, the key, CMUXEN, and the TrimDAC.
 #[repr(C)]
@@ -180,20 +166,6 @@ pub fn read_revision() -> u8
     ensures { λ r. ⌜ r ≡ revision ⌝ }
 {
     34
-}
-
-// ---- the end of a transfer
-
-// The transfer that runs ends: it does its work, and none runs any more.
-pub fn end_transfer(c: Calibration, eeprom: &mut [u8]) -> Calibration
-    requires { ⌜ (length (now eeprom) ≡ 128) × WorkingCalibration c ⌝ }
-    ensures { λ r. ⌜ r ≡ ended c (now (eeprom .entry)) ⌝ }
-    ensures { λ r. ⌜ now (eeprom .exit) ≡ eepromEnded c (now (eeprom .entry)) ⌝ }
-{
-    let t = transfers::transfer_of(c.transfer);
-    let d = transfers::end_by(t, c, eeprom);
-    transfers::store_by(t, c, eeprom);
-    d
 }
 
 // ---- reset, and a fresh board's calibration

@@ -94,7 +94,7 @@ fn start(b: Bench) -> Bench {
     let s = b.settings;
     match collector::start(s) {
         Started::Begun(c) => {
-            shows::text(b" ok");
+            panel::text(b" ok");
             Bench {
                 settings: s,
                 collector: c,
@@ -166,10 +166,10 @@ fn answers(b: Bench, count: u32, value: u32) -> Bench {
         c = d;
         left -= 1;
     }
-    shows::text(b" ");
-    shows::decimal(samples);
-    shows::text(b"+");
-    shows::decimal(gaps);
+    panel::text(b" ");
+    panel::decimal(samples);
+    panel::text(b"+");
+    panel::decimal(gaps);
     answer(
         Bench {
             settings: s,
@@ -194,9 +194,9 @@ fn show_record(b: Bench) -> Bench {
 fn show_fit(b: Bench) -> Bench {
     let c = b.collector;
     if collector::is_fit(c) {
-        shows::text(b" fit");
+        panel::text(b" fit");
     } else {
-        shows::text(b" unfit");
+        panel::text(b" unfit");
     }
     b
 }
@@ -216,12 +216,12 @@ fn number_samples(samples: &mut [i16]) {
 fn show_scans(samples: &[i16], n: usize, low: u8, high: u8) {
     if n <= samples.len() {
         let part = scans::whole_scans(&samples[..n], low, high);
-        shows::text(b" ");
-        shows::decimal(part.len() as u64);
+        panel::text(b" ");
+        panel::decimal(part.len() as u64);
         if part.len() > 0 {
             let last = part.len() - 1;
-            shows::text(b":");
-            shows::code(part[last]);
+            panel::text(b":");
+            panel::code(part[last]);
         }
     }
 }

@@ -1,5 +1,4 @@
 pub mod Channels
-pub mod Requests
 pub mod Registers
 pub mod Codes
 pub mod Bytes

@@ -10,7 +10,7 @@ use Rattle.base.specs.Choice.{if_then_else_}
 use Rattle.base.specs.Laws.{by-choice}
 use Rattle.base.specs.Tests.{all, each, every}
 use Rattle.converter.specs.declared.channels.Converter.{Converter}
-use Rattle.converter.specs.Channels.{nextChannel, started, idle, triggerStarts, triggered, endStarts, ended}
+use Rattle.converter.specs.Channels.{nextChannel, started, triggerStarts, triggered, endStarts, ended}
 use Rattle.converter.specs.Registers.{writtenLow, writtenHigh, writtenScanen, writtenClken, freshConverter}
 
 pub record WorkingConverter (c : Converter) : Type 0 where

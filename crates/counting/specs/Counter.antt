@@ -4,17 +4,17 @@ use Prim.Native.Nat.{ℕ, _%_}
 use mathlib.Core.Bool.{Bool, true, false, not, _&&_, _||_}
 use lib.Dec.{eqb}
 use Rattle.base.specs.Choice.{if_then_else_}
-use Rattle.counting.specs.Modes.{triggerLoads, fromTwo}
-use Rattle.counting.specs.Control.{command, setupOf}
-use Rattle.counting.specs.Element.{firstCount, pieceTaken, gateSeen, pulseTaken}
-use Rattle.counting.specs.Bytes.{noBytes, pieceOf, bytesAfter, shown, byteShown, bytesRead, latchTaken}
-use Rattle.counting.specs.declared.Mode.{Mode}
-use Rattle.counting.specs.declared.Command.{Command}
-use Rattle.counting.specs.declared.Command.the-variants.{LatchCount, Program, NotModelled}
-use Rattle.counting.specs.declared.Setup.{Setup}
-use Rattle.counting.specs.declared.Setup.the-variants.{Unprogrammed, Programmed}
-use Rattle.counting.specs.declared.Piece.{Piece}
-use Rattle.counting.specs.declared.Piece.the-variants.{First, Whole}
+use Rattle.counting_modes.specs.Modes.{triggerLoads, fromTwo}
+use Rattle.counting_modes.specs.Control.{command, setupOf}
+use Rattle.counting_element.specs.Element.{firstCount, pieceTaken, gateSeen, pulseTaken}
+use Rattle.counting_bytes.specs.Bytes.{noBytes, pieceOf, bytesAfter, shown, byteShown, bytesRead, latchTaken}
+use Rattle.counting_modes.specs.declared.Mode.{Mode}
+use Rattle.counting_modes.specs.declared.Command.{Command}
+use Rattle.counting_modes.specs.declared.Command.the-variants.{LatchCount, Program, NotModelled}
+use Rattle.counting_modes.specs.declared.Setup.{Setup}
+use Rattle.counting_modes.specs.declared.Setup.the-variants.{Unprogrammed, Programmed}
+use Rattle.counting_bytes.specs.declared.Piece.{Piece}
+use Rattle.counting_bytes.specs.declared.Piece.the-variants.{First, Whole}
 use Rattle.counting.specs.declared.Counter.{Counter}
 use Rattle.counting.specs.declared.CounterRead.{CounterRead}
 

@@ -1,11 +1,11 @@
 -- What makes no edge of OUT: a gate raises it at most, a read leaves it. Data sheet (manual, chapter 19): figure 15.
 use mathlib.Core.Path.{_≡_, refl}
 use mathlib.Core.Bool.{Bool, true, false, _&&_, _||_, not}
-use Rattle.counting.specs.Modes.{gateRaises}
-use Rattle.counting.specs.Control.{setupOf}
+use Rattle.counting_modes.specs.Modes.{gateRaises}
+use Rattle.counting_modes.specs.Control.{setupOf}
 use Rattle.counting.specs.Counter.{gateMovedAs, gateMoved, counterReadAs, counterRead}
-use Rattle.counting.specs.declared.Setup.{Setup}
-use Rattle.counting.specs.declared.Setup.the-variants.{Unprogrammed, Programmed}
+use Rattle.counting_modes.specs.declared.Setup.{Setup}
+use Rattle.counting_modes.specs.declared.Setup.the-variants.{Unprogrammed, Programmed}
 use Rattle.counting.specs.declared.Counter.{Counter}
 
 stays : (o : Bool) → o && not o ≡ false

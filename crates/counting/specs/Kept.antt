@@ -1,29 +1,28 @@
 -- Each event of a counter keeps a working counter working, and a fresh one is. The specification, "What is delivered".
-use Prim.Native.Nat.{ℕ, _<_, _/_, _%_}
+use Prim.Native.Nat.{ℕ, _/_, _%_}
 use mathlib.Core.Path.{_≡_, refl, ap, sym, _∙_, subst⁻¹}
-use mathlib.Core.Bool.{Bool, true, false, _&&_}
+use mathlib.Core.Bool.{Bool, true, false}
 use native.Mathlib.Omega.{arith}
 use borrow.Author.Tests.{eqb-false}
 use lib.Dec.{eqb}
-use Rattle.base.specs.Choice.{if_then_else_}
 use Rattle.base.specs.Laws.{by-choice, by-test, under-and}
-use Rattle.counting.specs.Modes.{fromTwo}
-use Rattle.counting.specs.Control.{command, setupOf}
-use Rattle.counting.specs.Element.{firstCount, pieceTaken, pulseLoads, pulseCounts, pulseTaken, countedBy}
-use Rattle.counting.specs.Bytes.{pieceOf}
+use Rattle.counting_modes.specs.Modes.{fromTwo}
+use Rattle.counting_modes.specs.Control.{command, setupOf}
+use Rattle.counting_element.specs.Element.{pieceTaken, pulseLoads, pulseCounts, pulseTaken, countedBy}
+use Rattle.counting_bytes.specs.Bytes.{pieceOf}
 use Rattle.counting.specs.Counter.{unprogrammed, programmed, latchedAs, commandedBy, commanded, pulsedAs, pulsed, gateMovedAs, gateMoved}
-use Rattle.counting.specs.Counter.{counterReadAs, counterRead, pieceRefused, pieceWritten, offered, byteWrittenAs, byteWritten}
+use Rattle.counting.specs.Counter.{counterReadAs, counterRead, pieceRefused, pieceWritten, byteWrittenAs, byteWritten}
 use Rattle.counting.specs.Working.{Facts, Working}
-use Rattle.counting.specs.declared.Mode.{Mode}
-use Rattle.counting.specs.declared.Mode.the-variants.{TerminalCount, RateGenerator}
-use Rattle.counting.specs.declared.Format.{Format}
-use Rattle.counting.specs.declared.Command.{Command}
-use Rattle.counting.specs.declared.Command.the-variants.{LatchCount, Program, NotModelled}
-use Rattle.counting.specs.declared.Setup.{Setup}
-use Rattle.counting.specs.declared.Setup.the-variants.{Unprogrammed, Programmed}
-use Rattle.counting.specs.declared.Piece.{Piece}
-use Rattle.counting.specs.declared.Piece.the-variants.{First, Whole}
-use Rattle.counting.specs.declared.Count.{Count}
+use Rattle.counting_modes.specs.declared.Mode.{Mode}
+use Rattle.counting_modes.specs.declared.Mode.the-variants.{TerminalCount, RateGenerator}
+use Rattle.counting_modes.specs.declared.Format.{Format}
+use Rattle.counting_modes.specs.declared.Command.{Command}
+use Rattle.counting_modes.specs.declared.Command.the-variants.{LatchCount, Program, NotModelled}
+use Rattle.counting_modes.specs.declared.Setup.{Setup}
+use Rattle.counting_modes.specs.declared.Setup.the-variants.{Unprogrammed, Programmed}
+use Rattle.counting_bytes.specs.declared.Piece.{Piece}
+use Rattle.counting_bytes.specs.declared.Piece.the-variants.{First, Whole}
+use Rattle.counting_element.specs.declared.Count.{Count}
 use Rattle.counting.specs.declared.Counter.{Counter}
 
 -- what keeps the six control bits is judged by the same set-up

@@ -1,7 +1,3 @@
-pub mod Modes
-pub mod Control
-pub mod Element
-pub mod Bytes
 pub mod Counter
 pub mod Working
 pub mod Kept

@@ -3,8 +3,8 @@ use Prim.Native.Nat.{ℕ}
 use mathlib.Core.Path.{_≡_, refl}
 use mathlib.Core.Bool.{Bool, true, false}
 use mathlib.Core.List.{List, [], _∷_}
-use Rattle.counting.specs.Control.{command, setupOf}
-use Rattle.counting.specs.Element.{countedBy}
+use Rattle.counting_modes.specs.Control.{command, setupOf}
+use Rattle.counting_element.specs.Element.{countedBy}
 use Rattle.counting.specs.Counter.{unprogrammed, commanded, byteWritten, pulsed}
 use Rattle.counting.specs.declared.Counter.{Counter}
 

@@ -1,16 +1,16 @@
 -- A working board's counter. The specification, "What is delivered": "Every register, channel, port, counter and divider is within its
 -- width or range ...; no mode 2 counter has 1 to load, and an unprogrammed counter's OUT is high."
-use Prim.Native.Nat.{ℕ, _<_}
+use Prim.Native.Nat.{_<_}
 use mathlib.Core.Path.{_≡_, refl, sym}
 use mathlib.Core.Bool.{Bool, true, false, not, _&&_}
 use mathlib.Core.List.{List, [], _∷_}
 use borrow.Author.Tests.{eqb-true, eqb-false, eq-eqb, ne-eqb, ltb-true, lt-ltb}
 use lib.Dec.{eqb, ltb}
 use Rattle.base.specs.Tests.{all, each, every}
-use Rattle.counting.specs.Modes.{fromTwo}
-use Rattle.counting.specs.Control.{setupOf}
-use Rattle.counting.specs.declared.Setup.{Setup}
-use Rattle.counting.specs.declared.Setup.the-variants.{Unprogrammed, Programmed}
+use Rattle.counting_modes.specs.Modes.{fromTwo}
+use Rattle.counting_modes.specs.Control.{setupOf}
+use Rattle.counting_modes.specs.declared.Setup.{Setup}
+use Rattle.counting_modes.specs.declared.Setup.the-variants.{Unprogrammed, Programmed}
 use Rattle.counting.specs.declared.Counter.{Counter}
 
 -- the facts, by what the six control bits set up: 0 or a control word that programs a counter

@@ -1,69 +1,18 @@
 // One counter of the 82C54 (manual, chapter 19: the data sheet), modes 0 and 2, binary. Each event is a function on a counter by
 // value, total over any record, and its contract is a definition of specs/Counter.antt.
-mod bytes;
-mod control;
-mod element;
-mod modes;
-
+use counting_bytes::Bus;
+use counting_bytes::Piece;
+use counting_element::Count;
+use counting_modes::Command;
+use counting_modes::Mode;
+use counting_modes::Setup;
+use counting_modes::control;
+use counting_modes::tables;
 ghost use mathlib.Core.Path.{_≡_};
-ghost use Rattle.counting.specs.Control.{wordRefused, setupOf};
+ghost use Rattle.counting_modes.specs.Control.{setupOf};
 ghost use Rattle.counting.specs.Counter.{unprogrammed, programmed, latchedAs, commanded, pulsed, gateMoved, counterRead};
 ghost use Rattle.counting.specs.Counter.{pieceRefused, byteRefused, pieceWritten, offered, byteWritten};
 ghost use Rattle.counting.specs.Working.{working};
-
-pub enum Mode {
-    TerminalCount,
-    RateGenerator,
-}
-
-// How the bytes of a count come and go.
-pub enum Format {
-    LeastByte,
-    MostByte,
-    TwoBytes,
-}
-
-// What a control word asks of its counter.
-pub enum Command {
-    LatchCount,
-    Program(Format, Mode),
-    NotModelled,
-}
-
-pub enum Setup {
-    Unprogrammed,
-    Programmed(Format, Mode),
-}
-
-// A written byte: the first of two, or what makes a whole count.
-pub enum Piece {
-    First(u8),
-    Whole(u16),
-}
-
-// The count register CR, the counting element CE and OUT.
-#[repr(C)]
-pub struct Count {
-    pub register: u16,
-    pub element: u16,
-    pub out: bool,
-    // a whole count is to be loaded on the next CLK pulse
-    pub waiting: bool,
-    // a count was loaded since the control word
-    pub loaded: bool,
-}
-
-// The output latch OL, and which byte comes next.
-#[repr(C)]
-pub struct Bus {
-    pub latch: u16,
-    pub latched: bool,
-    // the next byte that is read is the most significant one of two
-    pub halfread: bool,
-    // the least significant byte of two that was written
-    pub first: u8,
-    pub halfwritten: bool,
-}
 
 #[repr(C)]
 pub struct Counter {
@@ -95,7 +44,7 @@ pub fn new() -> Counter
             waiting: false,
             loaded: false,
         },
-        bus: bytes::none(),
+        bus: counting_bytes::none(),
     }
 }
 
@@ -105,8 +54,8 @@ fn program(word: u8, m: Mode) -> Counter
     Counter {
         control: word % 64,
         trigger: false,
-        count: element::first_count(m),
-        bus: bytes::none(),
+        count: counting_element::first_count(m),
+        bus: counting_bytes::none(),
     }
 }
 
@@ -118,20 +67,9 @@ fn latch(c: Counter) -> Counter
         Setup::Programmed(_, _) => {
             let s = c.bus;
             let mut d = c;
-            d.bus = bytes::take_latch(s, c.count.element);
+            d.bus = counting_bytes::take_latch(s, c.count.element);
             d
         }
-    }
-}
-
-// Whether a control word, whatever counter it selects, is refused.
-pub fn refuses_word(word: u8) -> bool
-    ensures { λ r. ⌜ r ≡ wordRefused word ⌝ }
-{
-    match control::command_of(word) {
-        Command::LatchCount => false,
-        Command::Program(_, _) => false,
-        Command::NotModelled => true,
     }
 }
 
@@ -155,7 +93,7 @@ pub fn pulse(c: Counter, gate: bool) -> Counter
         Setup::Programmed(_, m) => {
             let k = c.count;
             let mut d = c;
-            d.count = element::take_pulse(m, gate, c.trigger, c.bus.halfwritten, k);
+            d.count = counting_element::take_pulse(m, gate, c.trigger, c.bus.halfwritten, k);
             d.trigger = false;
             d
         }
@@ -170,9 +108,9 @@ pub fn move_gate(c: Counter, was: bool, is: bool) -> Counter
         Setup::Unprogrammed => c,
         Setup::Programmed(_, m) => {
             let k = c.count;
-            let trigger = c.trigger | modes::trigger_loads(m) & (!was & is);
+            let trigger = c.trigger | tables::trigger_loads(m) & (!was & is);
             let mut d = c;
-            d.count = element::see_gate(m, was, is, k);
+            d.count = counting_element::see_gate(m, was, is, k);
             d.trigger = trigger;
             d
         }
@@ -191,9 +129,13 @@ pub fn read(c: Counter) -> CounterRead
         Setup::Programmed(f, _) => {
             let s = c.bus;
             let mut d = c;
-            d.bus = bytes::after_read(f, s);
+            d.bus = counting_bytes::after_read(f, s);
             CounterRead {
-                byte: bytes::byte_shown(f, s.halfread, bytes::shown_count(s, c.count.element)),
+                byte: counting_bytes::byte_shown(
+                    f,
+                    s.halfread,
+                    counting_bytes::shown_count(s, c.count.element),
+                ),
                 counter: d,
             }
         }
@@ -205,7 +147,7 @@ fn refuses_piece(m: Mode, q: Piece) -> bool
 {
     match q {
         Piece::First(_) => false,
-        Piece::Whole(n) => modes::from_two(m) & (n == 1),
+        Piece::Whole(n) => tables::from_two(m) & (n == 1),
     }
 }
 
@@ -217,7 +159,7 @@ pub fn refuses_byte(c: Counter, byte: u8) -> bool
         Setup::Unprogrammed => true,
         Setup::Programmed(f, m) => {
             let s = c.bus;
-            refuses_piece(m, bytes::piece_of(f, s, byte))
+            refuses_piece(m, counting_bytes::piece_of(f, s, byte))
         }
     }
 }
@@ -228,8 +170,8 @@ fn write_piece(m: Mode, c: Counter, q: Piece) -> Counter
     let k = c.count;
     let s = c.bus;
     let mut d = c;
-    d.count = element::take_piece(m, k, q);
-    d.bus = bytes::after_write(s, q);
+    d.count = counting_element::take_piece(m, k, q);
+    d.bus = counting_bytes::after_write(s, q);
     d
 }
 
@@ -251,7 +193,7 @@ pub fn write_byte(c: Counter, byte: u8) -> Counter
         Setup::Unprogrammed => c,
         Setup::Programmed(f, m) => {
             let s = c.bus;
-            offer(m, c, bytes::piece_of(f, s, byte))
+            offer(m, c, counting_bytes::piece_of(f, s, byte))
         }
     }
 }
@@ -263,6 +205,6 @@ pub fn is_working(c: Counter) -> bool
     match control::setup_of(c.control) {
         Setup::Unprogrammed => (c.control == 0) & c.count.out,
         Setup::Programmed(_, m) => (c.control < 64)
-            & !(modes::from_two(m) & (c.count.register == 1)),
+            & !(tables::from_two(m) & (c.count.register == 1)),
     }
 }

@@ -2,7 +2,8 @@
 -- DIN 15, Latch and port pins 0, EEPROM and TrimDAC 0."
 use Prim.Native.Nat.{ℕ}
 use mathlib.Core.Bool.{Bool, false}
-use Rattle.converter.specs.Registers.{freshConverter, freshRequests}
+use Rattle.converter.specs.Registers.{freshConverter}
+use Rattle.requests.specs.Registers.{freshRequests}
 use Rattle.fifo.specs.Queue.{emptyFifo}
 use Rattle.outputs.specs.Outputs.{resetA}
 use Rattle.timer.specs.Timer.{unprogrammedTimer}

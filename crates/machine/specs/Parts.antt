@@ -1,6 +1,6 @@
 -- The board with one part replaced.
 use Rattle.converter.specs.declared.channels.Converter.{Converter}
-use Rattle.converter.specs.declared.requests.Requests.{Requests}
+use Rattle.requests.specs.declared.Requests.{Requests}
 use Rattle.fifo.specs.declared.Fifo.{Fifo}
 use Rattle.machine.specs.declared.Registers.{Registers}
 use Rattle.outputs.specs.declared.Outputs.{Outputs}

@@ -1,6 +1,6 @@
 -- A working board, its sample memory apart. The specification, "What is delivered": "Every register, channel, port, counter and divider is
 -- within its width or range, DACBUSY has at most 100 ticks left, ...; no mode 2 counter has 1 to load, and an unprogrammed counter's OUT is high."
-use Prim.Native.Nat.{ℕ, _≤_}
+use Prim.Native.Nat.{_≤_}
 use mathlib.Core.Path.{_≡_}
 use mathlib.Core.Bool.{Bool, true}
 use mathlib.Core.List.{List, [], _∷_}

@@ -1,19 +1,15 @@
-// The board's record, and what ticks, pins and resets make of it. No function here sees the sample memory or the EEPROM. Each contract
-// is a definition of specs/.
-pub mod clock;
-pub mod edges;
-pub mod reset;
-
+// The board's record: fresh, working, and as it shows on the pins. What ticks, pins and resets make of it stands in crates above; none of
+// them sees the sample memory or the EEPROM. Each contract is a definition of specs/.
 ghost use mathlib.Core.Path.{_≡_};
 ghost use Rattle.machine.specs.Fresh.{freshRegisters, freshBoard, numberOf};
 ghost use Rattle.machine.specs.Working.{workingMachine};
 ghost use Rattle.machine.specs.View.{doutPins, singleEnded};
 use calibration::Calibration;
 use converter::channels::Converter;
-use converter::requests::Requests;
 use fifo::Fifo;
 use outputs::Outputs;
 use ports::Ports;
+use requests::Requests;
 use timer::Timer;
 
 // The channel configuration of manual 5.4.
@@ -98,7 +94,7 @@ pub fn fresh(jumpers: Jumpers, zero_scale: bool) -> Board
     let inputs = number_of(jumpers);
     Board {
         converter: converter::channels::fresh_converter(),
-        requests: converter::requests::fresh_requests(),
+        requests: requests::fresh_requests(),
         fifo: fifo::empty(),
         registers: fresh_registers(),
         outputs: outputs::reset_a(zero_scale),

@@ -8,20 +8,22 @@ use lib.Ieee.{fin, round}
 use lib.Ieee.Exact.{HasValue}
 use mir.Syntax.{w16}
 use mir.Val.{toZ}
-use Rattle.counting.specs.Control.{command, wordRefused, setupOf}
-use Rattle.counting.specs.Element.{countedBy}
+use Rattle.counting_modes.specs.Control.{command, wordRefused, setupOf}
+use Rattle.counting_element.specs.Element.{countedBy}
 use Rattle.counting.specs.Counter.{commanded, pulsed, gateMoved, counterRead, byteRefused, byteWritten}
 use Rattle.timer.specs.Timer.{moved, clockedIf, gatesMoved, controlRefused, controlWritten, countRefused, countWritten, timerRead}
 use Rattle.fifo.specs.Samples.{pushed}
 use Rattle.fifo.specs.Queue.{pushedTo, poppedFrom}
 use Rattle.fifo.specs.Flags.{flagBits}
 use Rattle.converter.specs.Channels.{nextChannel}
-use Rattle.machine.specs.Clock.{turned, dividersTicked, counter0Ticked, counter1Ticked, outputsTicked, ticked, countingWritten}
-use Rattle.machine.specs.Reset.{boardReset, requestsCleared, pageSet, miscWritten}
+use Rattle.machine_clock.specs.Clock.{turned, countingWritten}
+use Rattle.machine_tick.specs.Tick.{dividersTicked, counter0Ticked, counter1Ticked, outputsTicked, ticked}
+use Rattle.machine_reset.specs.Reset.{boardReset, requestsCleared, pageSet, miscWritten}
 use Rattle.bus.specs.Place.{placeOf}
-use Rattle.bus.specs.Read.{byteAt, afterRead, readEffect}
-use Rattle.bus.specs.Write.{writtenAt, writeEffect}
-use Rattle.bus.specs.Refusals.{writeChecks, readChecks}
+use Rattle.bus.specs.Effects.{readEffect, writeEffect}
+use Rattle.bus_read.specs.Read.{byteAt, afterRead}
+use Rattle.bus_write.specs.Write.{writtenAt}
+use Rattle.bus_refusal.specs.Refusals.{writeChecks, readChecks}
 use Rattle.board.specs.Act.{acted, eepromActed}
 use Rattle.board.specs.Refusals.{eventChecks}
 use Rattle.board.specs.Step.{ran}

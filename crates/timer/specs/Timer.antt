@@ -6,7 +6,7 @@ use mathlib.Core.Bool.{Bool, true, false, not, _&&_, _||_}
 use lib.Dec.{eqb}
 use Rattle.base.specs.Choice.{if_then_else_}
 use Rattle.base.specs.Fields.{field}
-use Rattle.counting.specs.Control.{wordRefused}
+use Rattle.counting_modes.specs.Control.{wordRefused}
 use Rattle.counting.specs.Counter.{unprogrammed, commanded, pulsed, gateMoved, counterRead, byteRefused, byteWritten}
 use Rattle.counting.specs.declared.Counter.{Counter}
 use Rattle.timer.specs.declared.Timer.{Timer}

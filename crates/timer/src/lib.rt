@@ -170,7 +170,7 @@ fn select_of(sc: u8) -> Select
 pub fn refuses_control(word: u8) -> bool
     ensures { λ r. ⌜ r ≡ controlRefused word ⌝ }
 {
-    (word / 64 % 4 == 3) | counting::refuses_word(word)
+    (word / 64 % 4 == 3) | counting_modes::control::refuses_word(word)
 }
 
 // A control word: it goes to the counter that it selects.

@@ -1,0 +1,61 @@
+-- `bus::samples::write_effect` meets its contract. Assumes nothing.
+use borrow.Author.Needs.{needs}
+use Rattle.bus.proofs.samples.write_effect.Statement.{statement}
+use Rattle.bus.proofs.samples.write_effect.Tie as tie
+use Rattle.bus.specs.Effects.{writeEffect}
+
+pub write-effect-spec : {M : Type 1} → statement M
+unfolding writeEffect
+write-effect-spec =
+    tie.close
+    (tie.spec
+    (λ c. search needs)
+    (λ c. search needs)
+    (λ c. search needs)
+    (λ c. search needs)
+    (λ c. search needs)
+    (λ c. search needs)
+    (λ c. search needs)
+    (λ c. search needs)
+    (λ c κs. search needs)
+    (λ c κs. search needs)
+    (λ c. search needs)
+    (λ c κs. search needs)
+    (λ c κs. search needs)
+    (λ c. search needs)
+    (λ c. search needs)
+    (λ c. search needs)
+    (λ c. search needs)
+    (λ c. search needs)
+    (λ c. search needs)
+    (λ c. search needs)
+    (λ c. search needs)
+    (λ c. search needs)
+    (λ c. search needs)
+    (λ c. search needs)
+    (λ c. search needs)
+    (λ c. search needs)
+    (λ c. search needs)
+    (λ c. simp (c .enum-told .given .1))
+    (λ c. simp (c .enum-told2 .given .1))
+    (λ c. simp (c .enum-told3 .given .1))
+    (λ c. simp (c .enum-told4 .given .1))
+    (λ c. simp (c .enum-told5 .given .1))
+    (λ c. simp (c .enum-told6 .given .1))
+    (λ c. simp (c .enum-told7 .given .1))
+    (λ c. simp (c .empty-if .ensures, c .before .is-fiforst .ensures, c .before .before .enum-told8 .given .1))
+    (λ c. simp (c .empty-if2 .ensures, c .before .is-reset .ensures, c .before .before .enum-told9 .given .1))
+    (λ c. simp (c .enum-told10 .given .1))
+    (λ c. simp (c .enum-told11 .given .1))
+    (λ c. simp (c .enum-told12 .given .1))
+    (λ c. simp (c .enum-told13 .given .1))
+    (λ c. simp (c .enum-told14 .given .1))
+    (λ c. simp (c .enum-told15 .given .1))
+    (λ c. simp (c .enum-told16 .given .1))
+    (λ c. simp (c .enum-told17 .given .1))
+    (λ c. simp (c .enum-told18 .given .1))
+    (λ c. simp (c .enum-told19 .given .1))
+    (λ c. simp (c .enum-told20 .given .1))
+    (λ c. simp (c .enum-told21 .given .1))
+    (λ c. simp (c .enum-told22 .given .1))
+    (λ c. simp (c .enum-told23 .given .1)))

@@ -1,0 +1,16 @@
+-- `bus_read::input_bits` meets its contract. Assumes nothing.
+use borrow.Author.Needs.{needs}
+use Rattle.bus_read.proofs.input_bits.Statement.{statement}
+use Rattle.bus_read.proofs.input_bits.Tie as tie
+
+pub input-bits-spec : {M : Type 1} → statement M
+input-bits-spec =
+    tie.close
+    (tie.spec
+    (λ c κs. search needs)
+    (λ c κs. search needs)
+    (λ c κs. search needs)
+    (λ c κs. search needs)
+    (λ c. search needs)
+    (λ c. search needs)
+    (λ c. simp (c .before .weight2 .ensures .0, c .before .before .is-busy2 .ensures, c .before .before .before .weight .ensures .0, c .before .before .before .before .is-busy .ensures)))

@@ -1,0 +1,11 @@
+-- `bus_read::update` meets its contract. Assumes nothing.
+use borrow.Author.Needs.{needs}
+use Rattle.bus_read.proofs.update.Statement.{statement}
+use Rattle.bus_read.proofs.update.Tie as tie
+
+pub update-spec : {M : Type 1} → statement M
+update-spec =
+    tie.close
+    (tie.spec
+    (λ c κs. search needs)
+    (λ c. simp (c .update .ensures)))

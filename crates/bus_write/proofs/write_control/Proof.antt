@@ -1,0 +1,13 @@
+-- `bus_write::write_control` meets its contract. Assumes nothing.
+use borrow.Author.Needs.{needs}
+use Rattle.bus_write.proofs.write_control.Statement.{statement}
+use Rattle.bus_write.proofs.write_control.Tie as tie
+
+pub write-control-spec : {M : Type 1} → statement M
+write-control-spec =
+    tie.close
+    (tie.spec
+    (λ c κs. search needs)
+    (λ c κs. search needs)
+    (λ c κs. search needs)
+    (λ c. simp (c .turn-by .ensures, c .before .write-control .ensures, c .before .before .gates-of .ensures)))

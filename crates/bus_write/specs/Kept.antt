@@ -1,0 +1,54 @@
+-- Every byte written keeps a working board working.
+use Prim.Native.Nat.{ℕ}
+use mathlib.Core.Path.{refl}
+use native.Mathlib.Omega.{arith}
+use Rattle.converter.specs.Working as converter
+use Rattle.converter.specs.Channels.{softwareTrigger}
+use Rattle.outputs.specs.Laws as outputs
+use Rattle.timer.specs.Kept.{control-working, count-working}
+use Rattle.timer.specs.Timer.{countWritten, controlWritten}
+use Rattle.ports.specs.Laws as ports
+use Rattle.calibration.specs.Laws as calibration
+use Rattle.machine_clock.specs.Clock.{gates}
+use Rattle.machine.specs.Working.{WorkingMachine}
+use Rattle.machine.specs.Kept.{converter-kept, registers-kept, outputs-kept, ports-kept, calibration-kept, same-working}
+use Rattle.machine_clock.specs.Kept.{turned-by-works, counting-works}
+use Rattle.machine_reset.specs.Kept.{misc-works}
+use Rattle.machine.specs.declared.Board.{Board}
+use Rattle.bus_write.specs.Write.{writtenAt}
+use Rattle.bus.specs.declared.Place.{Place}
+use Rattle.bus.specs.declared.Place.the-variants.{Start, Digital, LowChannel, HighChannel, DacLeast, DacMost, Depth, FifoControl}
+use Rattle.bus.specs.declared.Place.the-variants.{Miscellaneous, Operation, CounterControl, Analog, Count, ControlWord, PortData, PortControl}
+use Rattle.bus.specs.declared.Place.the-variants.{Reserved, Auxiliary, CalData, CalAddress, CalCommand, CalKey, Outside}
+
+pub written-works : (b : Board) (p : Place) (v : ℕ) → WorkingMachine b → WorkingMachine (writtenAt b p v)
+unfolding writtenAt
+written-works b Start v w = converter-kept b w _ (converter.triggered-works (b .converter) (softwareTrigger (b .converter)) (w .converter))
+written-works b Digital v w =
+    registers-kept b w _ (record { page = w .registers .page; dout = omega arith; range = w .registers .range })
+written-works b LowChannel v w = converter-kept b w _ (converter.low-works (b .converter) v (w .converter))
+written-works b HighChannel v w = converter-kept b w _ (converter.high-works (b .converter) v (w .converter))
+written-works b DacLeast v w = outputs-kept b w _ (outputs.lsb-works (b .outputs) v (w .outputs))
+written-works b DacMost v w = outputs-kept b w _ (outputs.msb-works (b .outputs) v (w .outputs))
+written-works b Depth v w = same-working b _ w (w .din) refl refl refl refl refl refl refl
+written-works b FifoControl v w =
+    same-working _ _ (converter-kept b w _ (converter.scanen-works (b .converter) v (w .converter))) (w .din) refl refl refl refl refl refl refl
+written-works b Miscellaneous v w = misc-works b v w
+written-works b Operation v w =
+    same-working _ _ (converter-kept b w _ (converter.clken-works (b .converter) v (w .converter))) (w .din) refl refl refl refl refl refl refl
+written-works b CounterControl v w = counting-works b v w
+written-works b Analog v w =
+    registers-kept b w _ (record { page = w .registers .page; dout = w .registers .dout; range = omega arith })
+written-works b (Count s) v w =
+    turned-by-works b (countWritten (b .clocks .timer) s v (gates b)) w (count-working (b .clocks .timer) s v (gates b) (w .clocks .timer))
+written-works b ControlWord v w =
+    turned-by-works b (controlWritten (b .clocks .timer) v (gates b)) w (control-working (b .clocks .timer) v (gates b) (w .clocks .timer))
+written-works b (PortData q) v w = ports-kept b w _ (ports.latch-works (b .ports) q v (w .ports))
+written-works b PortControl v w = ports-kept b w _ (ports.control-works (b .ports) v (w .ports))
+written-works b Reserved v w = w
+written-works b Auxiliary v w = w
+written-works b CalData v w = calibration-kept b w _ (calibration.value-works (b .calibration) v (w .calibration))
+written-works b CalAddress v w = calibration-kept b w _ (calibration.address-works (b .calibration) v (w .calibration))
+written-works b CalCommand v w = calibration-kept b w _ (calibration.control-works (b .calibration) v (w .calibration))
+written-works b CalKey v w = calibration-kept b w _ (calibration.key-works (b .calibration) v (w .calibration))
+written-works b Outside v w = w

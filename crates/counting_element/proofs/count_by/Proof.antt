@@ -1,0 +1,17 @@
+-- `counting_element::count_by` meets its contract. Assumes nothing.
+use borrow.Author.Needs.{needs}
+use Rattle.counting_element.proofs.count_by.Statement.{statement}
+use Rattle.counting_element.proofs.count_by.Tie as tie
+use Rattle.counting_element.specs.Element.{countedBy}
+
+pub count-by-spec : {M : Type 1} → statement M
+unfolding countedBy
+count-by-spec =
+    tie.close
+    (tie.spec
+    (λ c. search needs)
+    (λ c κs. search needs)
+    (λ c. search needs)
+    (λ c κs. search needs)
+    (λ c. simp (c .count-terminal .ensures, c .before .enum-told .given .1))
+    (λ c. simp (c .count-rate .ensures, c .before .enum-told2 .given .1)))

@@ -1,0 +1,11 @@
+-- `counting_element::count_terminal` meets its contract. Assumes nothing.
+use borrow.Author.Needs.{needs}
+use Rattle.counting_element.proofs.count_terminal.Statement.{statement}
+use Rattle.counting_element.proofs.count_terminal.Tie as tie
+
+pub count-terminal-spec : {M : Type 1} → statement M
+count-terminal-spec =
+    tie.close
+    (tie.spec
+    (λ c κs. search needs)
+    (λ c. simp (c .before .one-less .ensures)))

@@ -1,0 +1,11 @@
+-- `counting_element::first_count` meets its contract. Assumes nothing.
+use borrow.Author.Needs.{needs}
+use Rattle.counting_element.proofs.first_count.Statement.{statement}
+use Rattle.counting_element.proofs.first_count.Tie as tie
+
+pub first-count-spec : {M : Type 1} → statement M
+first-count-spec =
+    tie.close
+    (tie.spec
+    (λ c κs. search needs)
+    (λ c. simp (c .first-out .ensures)))

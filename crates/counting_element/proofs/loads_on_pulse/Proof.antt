@@ -1,0 +1,11 @@
+-- `counting_element::loads_on_pulse` meets its contract. Assumes nothing.
+use borrow.Author.Needs.{needs}
+use Rattle.counting_element.proofs.loads_on_pulse.Statement.{statement}
+use Rattle.counting_element.proofs.loads_on_pulse.Tie as tie
+
+pub loads-on-pulse-spec : {M : Type 1} → statement M
+loads-on-pulse-spec =
+    tie.close
+    (tie.spec
+    (λ c κs. search needs)
+    (λ c. simp (c .before .before .trigger-loads .ensures)))

@@ -1,0 +1,11 @@
+-- `counting_element::see_gate` meets its contract. Assumes nothing.
+use borrow.Author.Needs.{needs}
+use Rattle.counting_element.proofs.see_gate.Statement.{statement}
+use Rattle.counting_element.proofs.see_gate.Tie as tie
+
+pub see-gate-spec : {M : Type 1} → statement M
+see-gate-spec =
+    tie.close
+    (tie.spec
+    (λ c κs. search needs)
+    (λ c. simp (c .before .gate-raises .ensures)))

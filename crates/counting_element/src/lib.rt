@@ -1,0 +1,137 @@
+// The counting element of a counter: loading and counting (manual, chapter 19: the data sheet): specs/Element.antt.
+use counting_bytes::Piece;
+use counting_modes::Mode;
+use counting_modes::tables;
+ghost use mathlib.Core.Path.{_≡_};
+ghost use Rattle.counting_element.specs.Element.{down, load, countedTerminal, countedRate, countedBy, firstCount, pieceTaken, gateSeen};
+ghost use Rattle.counting_element.specs.Element.{pulseLoads, pulseCounts, pulseTaken};
+
+// The count register CR, the counting element CE and OUT.
+#[repr(C)]
+pub struct Count {
+    pub register: u16,
+    pub element: u16,
+    pub out: bool,
+    // a whole count is to be loaded on the next CLK pulse
+    pub waiting: bool,
+    // a count was loaded since the control word
+    pub loaded: bool,
+}
+
+// One less; 65,535 after 0.
+fn one_less(v: u16) -> u16
+    ensures { λ r. ⌜ r ≡ down v ⌝ }
+{
+    std::num::wrapping_sub_u16(v, 1)
+}
+
+fn load_count(k: Count, out: bool) -> Count
+    ensures { λ r. ⌜ r ≡ load k out ⌝ }
+{
+    Count {
+        register: k.register,
+        element: k.register,
+        out: out,
+        waiting: false,
+        loaded: true,
+    }
+}
+
+fn count_terminal(k: Count) -> Count
+    ensures { λ r. ⌜ r ≡ countedTerminal k ⌝ }
+{
+    let v = one_less(k.element);
+    let mut n = k;
+    n.element = v;
+    n.out = k.out | (v == 0);
+    n
+}
+
+fn count_rate(k: Count) -> Count
+    ensures { λ r. ⌜ r ≡ countedRate k ⌝ }
+{
+    if k.element == 1 {
+        load_count(k, tables::load_out(Mode::RateGenerator))
+    } else {
+        let v = one_less(k.element);
+        let mut n = k;
+        n.element = v;
+        n.out = !(v == 1);
+        n
+    }
+}
+
+fn count_by(m: Mode, k: Count) -> Count
+    ensures { λ r. ⌜ r ≡ countedBy m k ⌝ }
+{
+    match m {
+        Mode::TerminalCount => count_terminal(k),
+        Mode::RateGenerator => count_rate(k),
+    }
+}
+
+// The count that a control word sets.
+pub fn first_count(m: Mode) -> Count
+    ensures { λ r. ⌜ r ≡ firstCount m ⌝ }
+{
+    Count {
+        register: 0,
+        element: 0,
+        out: tables::first_out(m),
+        waiting: false,
+        loaded: false,
+    }
+}
+
+// A byte of a count, the first of two or the last.
+pub fn take_piece(m: Mode, k: Count, q: Piece) -> Count
+    ensures { λ r. ⌜ r ≡ pieceTaken m k q ⌝ }
+{
+    let out = k.out & !tables::byte_stops(m);
+    let waiting = tables::loads_at_once(m) | !k.loaded;
+    let mut n = k;
+    n.out = out;
+    match q {
+        Piece::First(_) => n,
+        Piece::Whole(w) => {
+            n.register = w;
+            n.waiting = waiting;
+            n
+        }
+    }
+}
+
+// OUT as GATE goes from `was` to `is`.
+pub fn see_gate(m: Mode, was: bool, is: bool, k: Count) -> Count
+    ensures { λ r. ⌜ r ≡ gateSeen m was is k ⌝ }
+{
+    let out = k.out | tables::gate_raises(m) & (was & !is);
+    let mut n = k;
+    n.out = out;
+    n
+}
+
+fn loads_on_pulse(m: Mode, trigger: bool, k: Count) -> bool
+    ensures { λ r. ⌜ r ≡ pulseLoads m trigger k ⌝ }
+{
+    k.waiting | k.loaded & (tables::trigger_loads(m) & trigger)
+}
+
+fn counts_on_pulse(m: Mode, gate: bool, half: bool, k: Count) -> bool
+    ensures { λ r. ⌜ r ≡ pulseCounts m gate half k ⌝ }
+{
+    k.loaded & (gate & !(half & tables::byte_stops(m)))
+}
+
+// A CLK pulse loads, counts or does nothing.
+pub fn take_pulse(m: Mode, gate: bool, trigger: bool, half: bool, k: Count) -> Count
+    ensures { λ r. ⌜ r ≡ pulseTaken m gate trigger half k ⌝ }
+{
+    if loads_on_pulse(m, trigger, k) {
+        load_count(k, tables::load_out(m))
+    } else if counts_on_pulse(m, gate, half, k) {
+        count_by(m, k)
+    } else {
+        k
+    }
+}

@@ -1,0 +1,14 @@
+-- `machine_clock::turn_by` meets its contract. Assumes nothing.
+use borrow.Author.Needs.{needs}
+use Rattle.machine_clock.proofs.turn_by.Statement.{statement}
+use Rattle.machine_clock.proofs.turn_by.Tie as tie
+
+pub turn-by-spec : {M : Type 1} → statement M
+turn-by-spec =
+    tie.close
+    (tie.spec
+    (λ c. search needs)
+    (λ c κs. search needs)
+    (λ c. search needs)
+    (λ c. simp (c .turn .ensures, c .before .before .w .given .1))
+    (λ c. simp (c .enum-told .given .1)))

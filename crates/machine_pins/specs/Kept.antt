@@ -1,0 +1,42 @@
+-- The pins keep a working board working.
+use Prim.Native.Nat.{ℕ, _≤_}
+use mathlib.Core.Path.{refl}
+use mathlib.Core.Bool.{Bool, false}
+use Rattle.converter.specs.Working as converter
+use Rattle.converter.specs.Channels.{clockTrigger}
+use Rattle.timer.specs.Kept.{clocked-working}
+use Rattle.timer.specs.declared.Select.the-variants.{Counter0}
+use Rattle.ports.specs.Laws as ports
+use Rattle.ports.specs.declared.Port.{Port}
+use Rattle.machine_clock.specs.Clock.{gates, gatesAt}
+use Rattle.machine_pins.specs.Pins.{dinMoved, din0Clocked, triggersStopped, din3Triggered, dinSet, latchSet, portSet}
+use Rattle.machine.specs.Working.{WorkingMachine}
+use Rattle.machine.specs.declared.Board.{Board}
+use Rattle.machine.specs.Kept.{converter-kept, ports-kept, same-working}
+use Rattle.machine_clock.specs.Kept.{gates-kept, turned-works}
+
+din-moved-works : (b : Board) (n : ℕ) → n ≤ 15 → WorkingMachine b → WorkingMachine (dinMoved b n)
+unfolding dinMoved
+din-moved-works b n h w = same-working _ _ (gates-kept b (gatesAt (b .registers .counting) n) w) h refl refl refl refl refl refl refl
+
+din0-works : (b : Board) (fallen : Bool) → WorkingMachine b → WorkingMachine (din0Clocked b fallen)
+unfolding din0Clocked
+din0-works b fallen w = turned-works b _ w (clocked-working _ Counter0 (gates b) _ (w .clocks .timer))
+
+din3-works : (b : Board) (fallen : Bool) → WorkingMachine b → WorkingMachine (din3Triggered b fallen)
+unfolding din3Triggered
+din3-works b fallen w =
+    converter-kept b w _
+    (converter.triggered-works (b .converter) (clockTrigger (b .converter) (b .requests .clksel) false fallen (triggersStopped b)) (w .converter))
+
+pub din-works : (b : Board) (n : ℕ) → n ≤ 15 → WorkingMachine b → WorkingMachine (dinSet b n)
+unfolding dinSet
+din-works b n h w = din3-works _ _ (din0-works _ _ (din-moved-works b n h w))
+
+pub latch-works : (b : Board) (high : Bool) → WorkingMachine b → WorkingMachine (latchSet b high)
+unfolding latchSet
+latch-works b high w = same-working b _ w (w .din) refl refl refl refl refl refl refl
+
+pub port-works : (b : Board) (q : Port) (v : ℕ) → WorkingMachine b → WorkingMachine (portSet b q v)
+unfolding portSet
+port-works b q v w = ports-kept b w _ (ports.pins-works (b .ports) q v (w .ports))

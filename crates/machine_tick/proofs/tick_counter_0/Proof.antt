@@ -1,0 +1,16 @@
+-- `machine_tick::tick_counter_0` meets its contract. Assumes nothing.
+use borrow.Author.Needs.{needs}
+use Rattle.machine_tick.proofs.tick_counter_0.Statement.{statement}
+use Rattle.machine_tick.proofs.tick_counter_0.Tie as tie
+use Rattle.machine_tick.specs.Tick.{counter0Ticked}
+
+pub tick-counter-0-spec : {M : Type 1} → statement M
+unfolding counter0Ticked
+tick-counter-0-spec =
+    tie.close
+    (tie.spec
+    (λ c κs. search needs)
+    (λ c κs. search needs)
+    (λ c κs. search needs)
+    (λ c κs. search needs)
+    (λ c. simp (c .turn .ensures, c .before .clock-if .ensures, c .before .before .clocks-0 .ensures, c .before .before .before .gates-of .ensures)))

@@ -1,0 +1,2 @@
+pub mod Tick
+pub mod Kept
