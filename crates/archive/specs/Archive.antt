@@ -1,0 +1,26 @@
+-- What the archives rest on: condition 3 of acceptance, of the product's own board and collector. Whatever working board stands at the start, in
+-- the middle of a scan, with stale samples, OVF set, on any page, with any counters; whatever settings a start takes, whether or not its jumpers
+-- are the board's.
+use Prim.Native.Nat.{ℕ}
+use mathlib.Core.List.{List}
+use mathlib.Core.Path.{_≡_, sym, subst}
+use lib.ListN.{length}
+use Rattle.machine.specs.declared.Board.{Board}
+use Rattle.board.specs.Working.{WorkingBoard}
+use Rattle.collector.specs.declared.Collector.{Collector}
+use Rattle.collector.specs.declared.Settings.{Settings}
+use Rattle.collector.specs.declared.Started.the-variants.{Begun}
+use Rattle.collector.specs.Reply.{started}
+use Rattle.collector.specs.Kept.{started-begun}
+use Rattle.turns.specs.Real.{lent, real, words}
+use Rattle.archive.specs.Demand.{Demand3}
+use Rattle.archive.specs.RealViews.{Works}
+use Rattle.archive.specs.Real.{real-laws}
+use Rattle.archive.specs.Theorem.{demand3}
+
+pub archive : (b : Board) (memory eeprom : List ℕ) (settings : Settings) (c : Collector) → WorkingBoard b memory → length eeprom ≡ 128
+    → started settings ≡ Begun c → Demand3 real words (record { board = lent b memory eeprom; collector = c })
+archive b memory eeprom settings c w e h =
+    let s = started-begun settings c h in
+    subst (λ (d : Collector). Demand3 real words (record { board = lent b memory eeprom; collector = d })) (sym (s .0))
+    (demand3 real Works real-laws (lent b memory eeprom) (record { board = w; eeprom = e }) settings (s .1))

@@ -1,0 +1,104 @@
+-- What holds in each phase holds after every run. Assumes nothing.
+use Prim.Native.Nat.{ℕ}
+use mathlib.Core.Bool.{Bool, true, false}
+use mathlib.Core.List.{List, []}
+use mathlib.Core.Path.{_≡_, refl, sym, _∙_, ap, subst}
+use Rattle.board.specs.declared.Answer.{Answer}
+use Rattle.board.specs.declared.Event.{Event}
+use Rattle.collector.specs.declared.Access.{Access}
+use Rattle.collector.specs.declared.Access.the-variants.{WriteByte, ReadByte, ReadWord, NoAccess}
+use Rattle.collector.specs.declared.Collector.{Collector}
+use Rattle.collector.specs.declared.Settings.{Settings}
+use Rattle.collector.specs.declared.Taken.{Taken}
+use Rattle.collector.specs.Phases.{phaseOf, accessIn}
+use Rattle.collector.specs.Fit.{FitSettings, FitCollector}
+use Rattle.collector.specs.Reply.{accessOf, replied, begun}
+use Rattle.collector.specs.Counts.{step-holds}
+use Rattle.collector.specs.Steps.{step, access-fit}
+use Rattle.collector.specs.Kept.{begun-fit, replied-fit}
+use Rattle.turns.specs.Machine.{Machine}
+use Rattle.turns.specs.declared.Asked.{Asked}
+use Rattle.turns.specs.declared.Asked.the-variants.{Made, NotMade}
+use Rattle.turns.specs.declared.Brought.{Brought}
+use Rattle.turns.specs.declared.Brought.the-variants.{Answered, NotAnswered}
+use Rattle.turns.specs.Turn.{eventOf, broughtBy, broughtTo, turnBy, turnOf}
+use Rattle.turns.specs.Real.{words}
+use Rattle.archive.specs.World.{eventIn}
+use Rattle.archive.specs.Run.{Happening, turn, world, Run, begin, _▸_, System, next, after}
+use Rattle.archive.specs.Log.{Log, asks, note, blank, log, selected}
+use Rattle.archive.specs.Laws.{Laws}
+use Rattle.archive.specs.Phases.{FactOf}
+use Rattle.archive.specs.Worlds.{world-kept}
+use Rattle.archive.specs.Kept.{turn-kept}
+
+-- ---- what a turn leaves: a fit collector with its settings, and the board that the access leaves
+module _ {B : Type 0} (c : Collector) (fc : FitCollector c) (b : B) where
+  pub brought-fit : (x : Brought) → FitCollector (broughtTo words c b x .collector)
+  brought-fit (Answered a) = replied-fit c fc (a .number)
+  brought-fit (NotAnswered n) = fc
+
+  pub brought-set : (x : Brought) → broughtTo words c b x .collector .settings ≡ c .settings
+  brought-set (Answered a) = step-holds c (a .number) (phaseOf (c .phase)) (replied c (a .number)) (step c (a .number) fc) .0
+  brought-set (NotAnswered n) = refl
+
+  pub brought-board : (x : Brought) → broughtTo words c b x .board ≡ b
+  brought-board (Answered a) = refl
+  brought-board (NotAnswered n) = refl
+
+module _ (M : Machine) (Working : M .Board → Type 0) (laws : Laws M Working) where
+  -- the board works, and the collector is fit and has these settings
+  pub record Sound (t : Settings) (x : System M) : Type 0 where
+    pub works : Working (x .board)
+    pub fit : FitCollector (x .collector)
+    pub same : x .collector .settings ≡ t
+
+  module _ (c : Collector) (fc : FitCollector c) (b : M .Board) (wk : Working b) where
+    turn-sound : (x : Asked) → Sound (c .settings) (record { board = turnBy M words x c b .board; collector = turnBy M words x c b .collector })
+    turn-sound (Made ev) =
+        let y : Brought = broughtBy (M .answered b ev) in
+        record {
+          works = rw (brought-board c fc (M .stepped b ev) y) (laws .works b ev wk);
+          fit = brought-fit c fc (M .stepped b ev) y;
+          same = brought-set c fc (M .stepped b ev) y;
+        }
+    turn-sound (NotMade n) = record { works = wk; fit = fc; same = refl }
+
+  sound-next : (t : Settings) (x : System M) (e : Happening) → Sound t x → Sound t (next M words x e)
+  sound-next t x turn s =
+      let k = turn-sound (x .collector) (s .fit) (x .board) (s .works) (eventOf (accessOf (x .collector))) in
+      record { works = k .works; fit = k .fit; same = k .same ∙ s .same }
+  sound-next t x (world w) s = record { works = laws .works (x .board) (eventIn w) (s .works); fit = s .fit; same = s .same }
+
+  pub sound : (t : Settings) (s : System M) (r : Run) → Sound t s → Sound t (after M words s r)
+  unfolding after
+  sound t s begin k = k
+  sound t s (r ▸ e) k = sound-next t (after M words s r) e (sound t s r k)
+
+  -- the facts of the phase
+  fact-next : (t : Settings) (x : System M) (l : Log) (e : Happening) → Sound t x → FactOf (x .collector) (M .view (x .board)) l
+      → FactOf (next M words x e .collector) (M .view (next M words x e .board)) (note M words x e l)
+  fact-next t x l turn s k =
+      rw (access-fit (x .collector) (s .fit))
+      (turn-kept M Working laws (x .board) (s .works) (x .collector) (s .fit) l (phaseOf (x .collector .phase)) refl k)
+  fact-next t x l (world w) s k =
+      world-kept (x .collector .settings) (x .collector .next) (x .collector .left) (s .fit .settings) (M .view (x .board)) l
+      (M .begins (x .board) (eventIn w)) (M .ends (x .board) (eventIn w)) (M .view (M .stepped (x .board) (eventIn w)))
+      (laws .happens (x .board) w (s .works)) (phaseOf (x .collector .phase)) k
+
+  pub facts : (t : Settings) (s : System M) (r : Run) → Sound t s → FactOf (s .collector) (M .view (s .board)) (log M words s begin)
+      → FactOf (after M words s r .collector) (M .view (after M words s r .board)) (log M words s r)
+  unfolding after log
+  facts t s begin a k = k
+  facts t s (r ▸ e) a k = fact-next t (after M words s r) (log M words s r) e (sound t s r a) (facts t s r a k)
+
+  -- a start on a working board
+  module _ (b : M .Board) (wk : Working b) (t : Settings) (f : FitSettings t) where
+    abbrev pub s₀ : System M
+    s₀ = record { board = b; collector = begun t }
+
+    pub sound₀ : Sound t s₀
+    sound₀ = record { works = wk; fit = begun-fit t f; same = refl }
+
+    pub fact₀ : FactOf (begun t) (M .view b) (log M words s₀ begin)
+    unfolding log phaseOf
+    fact₀ = (record { prefix = λ w. ([], refl); since = refl; runs = refl }, refl)

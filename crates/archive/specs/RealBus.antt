@@ -1,0 +1,161 @@
+-- The collector's accesses on the bus of the board of `board::step` (the specification, "Registers" and "The collector").
+use Prim.Native.Nat.{ℕ, _+_, _%_, _≤_}
+use mathlib.Core.Bool.{Bool, true, false}
+use mathlib.Core.List.{List, _∷_}
+use mathlib.Core.Path.{_≡_, refl, sym, ap, _∙_}
+use native.Mathlib.Omega.{arith}
+use borrow.Author.Tests.{le-ltb, eq-eqb, ne-eqb, leb-true, leb-false}
+use lib.Dec.{eqb, leb}
+use lib.ListN.{length}
+use Rattle.base.specs.Choice.{if_then_else_}
+use Rattle.base.specs.Laws.{choice-le}
+use Rattle.base.specs.Weights.{weightOf, weight-le}
+use Rattle.fifo.specs.Samples.{oldestOf}
+use Rattle.fifo.specs.Queue.{queue, poppedFrom, WorkingFifo}
+use Rattle.fifo.specs.Queue.Laws.{length-queue}
+use Rattle.fifo.specs.Flags.{flagBits}
+use Rattle.fifo.specs.declared.Fifo.{Fifo}
+use Rattle.machine.specs.View.{singleEnded}
+use Rattle.machine.specs.declared.Board.{Board}
+use Rattle.bus.specs.Place.{placeOf}
+use Rattle.bus_read.specs.Read.{byteAt, afterRead, fifoBits, adBits}
+use Rattle.bus.specs.Effects.{readEffect}
+use Rattle.bus_write.specs.Write.{writtenAt}
+use Rattle.bus.specs.Effects.{writeEffect}
+use Rattle.bus_refusal.specs.Refusals.{writeChecks, readChecks}
+use Rattle.board.specs.Refusals.{eventChecks}
+use Rattle.board.specs.Act.{acted}
+use Rattle.board.specs.Step.{ran}
+use Rattle.board.specs.Held.{Held, answered, happened}
+use Rattle.board.specs.Begins.{begins}
+use Rattle.board.specs.declared.Answer.the-variants.{Done, Byte, Word}
+use Rattle.board.specs.declared.Event.the-variants.{WriteByte, ReadByte, ReadWord}
+use Rattle.turns.specs.Real.{Lent, real}
+use Rattle.archive.specs.Bits.{sts-shown, ef-shown, hf-shown, ff-shown, ovf-shown, status-narrow}
+use Rattle.archive.specs.Laws.{clocked, cleared, lowered, raised, leaving, Serves, Polls, Looks, Fetches}
+use Rattle.archive.specs.RealViews.{Works, holds, shown, Makes, serves}
+
+module _ (h : Held) where
+  -- ---- the writes of a start
+  pub stops : Makes h (WriteByte 9 0) Done (clocked false (shown h))
+  unfolding answered happened eventChecks writeChecks placeOf ran acted writtenAt writeEffect begins
+  stops = record { answers = refl; leaves = refl; begins-none = refl }
+
+  pub ranges : (n : ℕ) → Makes h (WriteByte 11 n) Done (shown h)
+  unfolding answered happened eventChecks writeChecks placeOf ran acted writtenAt writeEffect begins
+  ranges n = record { answers = refl; leaves = refl; begins-none = refl }
+
+  pub clears : Makes h (WriteByte 7 2) Done (cleared (shown h))
+  unfolding answered happened eventChecks writeChecks placeOf ran acted writtenAt writeEffect begins
+  clears = record { answers = refl; leaves = refl; begins-none = refl }
+
+  pub lows : (n : ℕ) → n ≤ 31 → Makes h (WriteByte 2 n) Done (lowered n (shown h))
+  unfolding answered happened eventChecks writeChecks placeOf ran acted writtenAt writeEffect begins
+  lows n k =
+      record {
+        answers = refl;
+        leaves = ap (λ (x : ℕ). lowered x (shown h)) (let e : n % 32 ≡ n = omega arith in e);
+        begins-none = refl;
+      }
+
+  pub highs : (n : ℕ) → n ≤ 31 → Makes h (WriteByte 3 n) Done (raised n (shown h))
+  unfolding answered happened eventChecks writeChecks placeOf ran acted writtenAt writeEffect begins
+  highs n k =
+      record {
+        answers = refl;
+        leaves = ap (λ (x : ℕ). raised x (shown h)) (let e : n % 32 ≡ n = omega arith in e);
+        begins-none = refl;
+      }
+
+  pub goes : (external : Bool) → Makes h (WriteByte 9 (if external then 2 else 3)) Done (clocked true (shown h))
+  unfolding answered happened eventChecks writeChecks placeOf ran acted writtenAt writeEffect begins
+  goes true = record { answers = refl; leaves = refl; begins-none = refl }
+  goes false = record { answers = refl; leaves = refl; begins-none = refl }
+
+  -- ---- the reads
+  poll : Makes h (ReadByte 8) (Byte (adBits (h .board))) (shown h)
+  unfolding answered happened eventChecks readChecks placeOf ran acted byteAt afterRead readEffect begins
+  poll = record { answers = refl; leaves = refl; begins-none = refl }
+
+  look : Makes h (ReadByte 7) (Byte (fifoBits (h .board))) (shown h)
+  unfolding answered happened eventChecks readChecks placeOf ran acted byteAt afterRead readEffect begins
+  look = record { answers = refl; leaves = refl; begins-none = refl }
+
+  fetch : Makes h (ReadWord 0) (Word (oldestOf (h .samples))) (shown (happened h (ReadWord 0)))
+  unfolding answered happened eventChecks ran acted begins
+  fetch = record { answers = refl; leaves = refl; begins-none = refl }
+
+  -- the word read takes the oldest sample, and OVF clears
+  fetched : (c : ℕ) (rest : List ℕ) → h .samples ≡ c ∷ rest → eqb (h .board .fifo .held) 0 ≡ false
+      → shown (happened h (ReadWord 0)) ≡ leaving rest (shown h)
+  unfolding happened eventChecks ran acted poppedFrom
+  fetched c rest e z = rw (e, z)
+
+-- ---- the poll: STS
+inputs-fit : (b : Board) → singleEnded b ≤ 96
+inputs-fit b =
+    choice-le (eqb (b .wiring .inputs) 0) (omega arith)
+    (choice-le (eqb (b .wiring .inputs) 1) (omega arith)
+    (choice-le (eqb (b .wiring .inputs) 2) (omega arith) (choice-le (eqb (b .wiring .inputs) 3) (omega arith) (omega arith))))
+
+pub polls : (l : Lent) → Works l → Polls real l
+polls l w =
+    record {
+      byte = adBits (l .board);
+      serves = serves l _ _ _ w (poll (holds l));
+      narrow =
+          le-ltb 255 (adBits (l .board)) (omega (arith, weight-le (l .board .converter .converting) 128, inputs-fit (l .board)));
+      sts = sts-shown (l .board .converter .converting) (l .board .converter .selected % 32) (singleEnded (l .board)) (omega arith) (inputs-fit (l .board));
+    }
+
+-- ---- the look: EF, HF, FF and OVF
+empty-flag : (n : ℕ) → eqb n 0 ≡ leb n 0
+empty-flag n = by (leb n 0) refl
+  where
+    by : (t : Bool) → leb n 0 ≡ t → eqb n 0 ≡ t
+    by true e = eq-eqb n 0 (omega (arith, leb-true n 0 e))
+    by false e = ne-eqb n 0 (λ z. omega (arith, leb-false n 0 e))
+
+full-flag : (n : ℕ) → n ≤ 512 → eqb n 512 ≡ leb 512 n
+full-flag n h = by (leb 512 n) refl
+  where
+    by : (t : Bool) → leb 512 n ≡ t → eqb n 512 ≡ t
+    by true e = eq-eqb n 512 (omega (arith, leb-true 512 n e))
+    by false e = ne-eqb n 512 (λ z. omega (arith, leb-false 512 n e))
+
+pub looks : (l : Lent) → Works l → Looks real l
+unfolding flagBits
+looks l w =
+    let f = l .board .fifo in
+    let e : length (queue f (l .memory)) ≡ f .held = length-queue f (l .memory) (w .board .fifo) in
+    let n : ℕ = weightOf (l .board .requests .fifoen) 8 + weightOf (l .board .converter .scanen) 4 in
+    let m : ℕ = l .board .registers .page % 4 in
+    let r : n + m ≤ 15 = omega (arith, weight-le (l .board .requests .fifoen) 8, weight-le (l .board .converter .scanen) 4) in
+    let E = eqb (f .held) 0 in
+    let H = leb 256 (f .held) in
+    let F = eqb (f .held) 512 in
+    record {
+      byte = fifoBits (l .board);
+      serves = serves l _ _ _ w (look (holds l));
+      narrow = le-ltb 255 (fifoBits (l .board)) (status-narrow E H F (f .ovf) n m r);
+      ef = ef-shown E H F (f .ovf) n m r ∙ empty-flag (f .held) ∙ ap (λ (k : ℕ). leb k 0) (sym e);
+      hf = hf-shown E H F (f .ovf) n m r ∙ ap (λ (k : ℕ). leb 256 k) (sym e);
+      ff = ff-shown E H F (f .ovf) n m r ∙ full-flag (f .held) (w .board .fifo .held) ∙ ap (λ (k : ℕ). leb 512 k) (sym e);
+      ovf = ovf-shown E H F (f .ovf) n m r;
+    }
+
+-- ---- the word read
+some-held : (f : Fifo) (m : List ℕ) (c : ℕ) (rest : List ℕ) → WorkingFifo f m → queue f m ≡ c ∷ rest → eqb (f .held) 0 ≡ false
+some-held f m c rest w e = ne-eqb (f .held) 0 (λ z. omega (arith, length-queue f m w, ap length e))
+
+pub words : (l : Lent) → Works l → Fetches real l
+words l w =
+    let s : Serves real l (ReadWord 0) (Word (oldestOf (holds l .samples))) (shown (happened (holds l) (ReadWord 0))) =
+    serves l _ _ _ w (fetch (holds l)) in
+    record {
+      word = oldestOf (holds l .samples);
+      answers = s .answers;
+      begins-none = s .begins-none;
+      oldest = λ c rest e. ap oldestOf e;
+      leaves = λ c rest e. s .leaves ∙ fetched (holds l) c rest e (some-held (l .board .fifo) (l .memory) c rest (w .board .fifo) e);
+    }

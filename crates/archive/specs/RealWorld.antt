@@ -1,0 +1,151 @@
+-- The world's events on the board of `board::step` (the specification, "Conversions, edges and requests"): an edge or a tick may begin a
+-- conversion, a conversion's end ends one and may begin the next, and no other event touches conversions or samples.
+use Prim.Native.Nat.{ℕ, _+_}
+use mathlib.Core.Bool.{Bool, true, false, not, _&&_, _||_}
+use mathlib.Core.Option.{none, some}
+use mathlib.Core.Path.{_≡_, refl, sym, ap, _∙_}
+use lib.IntN.{ℤ}
+use lib.Dec.{eqb, ltb}
+use lib.ListN.{length}
+use mir.Syntax.{w16}
+use mir.Val.{SFits}
+use Rattle.base.specs.Choice.{if_then_else_}
+use Rattle.fifo.specs.Samples.{oldestOf, pushed}
+use Rattle.fifo.specs.Queue.{pushedTo}
+use Rattle.fifo.specs.Queue.Laws.{length-queue}
+use Rattle.fifo.specs.declared.Fifo.{Fifo}
+use Rattle.converter.specs.Channels.{ended, clockTrigger}
+use Rattle.converter.specs.Begins.{trigger-lost}
+use Rattle.converter.specs.Codes.{sampleOf, code-of-sample}
+use Rattle.converter.specs.declared.channels.Converter.{Converter}
+use Rattle.machine_tick.specs.Tick.{dividersTicked, counter0Ticked}
+use Rattle.machine_pins.specs.Pins.{fellFrom, dinMoved, triggersStopped, latchSet, portSet}
+use Rattle.machine.specs.declared.Board.{Board}
+use Rattle.ports.specs.declared.Port.{Port}
+use Rattle.board.specs.Refusals.{eventChecks}
+use Rattle.board.specs.Act.{acted}
+use Rattle.board.specs.Step.{ran}
+use Rattle.board.specs.Held.{Held, ranHeld, happened}
+use Rattle.board.specs.Begins.{begins, tickBegins}
+use Rattle.board.specs.Conversions.{begun, din-triggered, tick-lost, counter0-same}
+use Rattle.board.specs.declared.Din.{Din}
+use Rattle.board.specs.declared.Event.{Event}
+use Rattle.board.specs.declared.Event.the-variants.{ConversionEnd, DinPins, LatchLevel, PortPins, Tick, TransferEnd}
+use Rattle.turns.specs.Machine.{View}
+use Rattle.turns.specs.Real.{Lent, real}
+use Rattle.archive.specs.World.{World, conversion-end, din-pins, latch-level, port-pins, tick, transfer-end, eventIn}
+use Rattle.archive.specs.Laws.{starting, Happens, quiet, trigger, end}
+use Rattle.archive.specs.RealViews.{Works, holds, shown, passes, HeldHappens, happens-held}
+
+-- what an event that is not refused leaves
+abbrev left : Held → Event → Held
+left h ev = record { board = ranHeld h ev .board; samples = ranHeld h ev .samples; eeprom = ranHeld h ev .eeprom }
+
+-- the view with another converter
+abbrev converted : View → Converter → View
+converted v c = record { converter = c; held = v .held; ovf = v .ovf }
+
+-- ---- edges and ticks
+-- an event that ends nothing, begins a conversion where the test says so, and else leaves the view
+edge : (h x : Held) (taken test : Bool)
+    → (test ≡ true → (h .board .converter .clken ≡ true) × (h .board .converter .converting ≡ false) × (shown x ≡ starting (shown h)))
+    → (test ≡ false → shown x ≡ shown h)
+    → Happens (taken && test) (if taken then none else none) (shown h) (shown (if taken then x else h))
+edge h x true true p q = let k = p refl in trigger refl refl (k .0) (k .1) (k .2)
+edge h x true false p q = quiet refl refl (q refl)
+edge h x false test p q = quiet refl refl refl
+
+-- an event that begins and ends nothing
+still : (h x : Held) (taken : Bool) → shown x ≡ shown h
+    → Happens (taken && false) (if taken then none else none) (shown h) (shown (if taken then x else h))
+still h x true e = quiet refl refl e
+still h x false e = quiet refl refl refl
+
+-- a clock's trigger that starts a conversion: CLKEN is set, and no conversion runs
+starts-idle : (clken edge converting : Bool) → (clken && edge) && not converting ≡ true → (clken ≡ true) × (converting ≡ false)
+starts-idle true edge false h = (refl, refl)
+starts-idle true true true h = (refl, sym h)
+starts-idle true false true h = (refl, sym h)
+starts-idle false edge true h = (h, sym h)
+starts-idle false edge false h = (h, refl)
+
+module _ (h : Held) where
+  din-happens : (d : Din) → HeldHappens h (DinPins d)
+  unfolding happened eventChecks ran acted begins
+  din-happens d =
+      let b = h .board in
+      let c = h .board .converter in
+      let falls = fellFrom (b .pins .din) (d .lines) 8 in
+      let stopped = triggersStopped (dinMoved b (d .lines)) in
+      let clksel = b .requests .clksel in
+      edge h (left h (DinPins d)) (passes h (DinPins d)) (begins b (DinPins d))
+      (λ e.
+      let i = starts-idle (c .clken) (clksel && false || not clksel && falls && not stopped) (c .converting) e in
+      (i .0, i .1, ap (converted (shown h)) (begun b (oldestOf (h .samples)) (h .eeprom) (DinPins d) e)))
+      (λ e. ap (converted (shown h)) (din-triggered b (d .lines) ∙ trigger-lost c (clockTrigger c clksel false falls stopped) e))
+
+  tick-happens : HeldHappens h Tick
+  unfolding happened eventChecks ran acted begins
+  tick-happens =
+      let b = h .board in
+      edge h (left h Tick) (passes h Tick) (begins b Tick)
+      (λ e.
+      let i = tick-idle b e in
+      (i .0, i .1, ap (converted (shown h)) (begun b (oldestOf (h .samples)) (h .eeprom) Tick e)))
+      (λ e. ap (converted (shown h)) (tick-lost b e))
+    where
+      tick-idle : (b : Board) → tickBegins b ≡ true → (b .converter .clken ≡ true) × (b .converter .converting ≡ false)
+      tick-idle b e =
+          let c = counter0Ticked (dividersTicked b) in
+          let i = starts-idle (c .converter .clken) _ (c .converter .converting) e in
+          (ap (λ (x : Converter). x .clken) (sym (counter0-same b)) ∙ i .0, ap (λ (x : Converter). x .converting) (sym (counter0-same b)) ∙ i .1)
+
+  -- ---- what touches neither conversions nor samples
+  latch-happens : (high : Bool) → HeldHappens h (LatchLevel high)
+  unfolding happened eventChecks ran acted begins latchSet
+  latch-happens high = still h (left h (LatchLevel high)) (passes h (LatchLevel high)) refl
+
+  port-happens : (q : Port) (v : ℕ) → HeldHappens h (PortPins q v)
+  unfolding happened eventChecks ran acted begins portSet
+  port-happens q v = still h (left h (PortPins q v)) (passes h (PortPins q v)) refl
+
+  transfer-happens : HeldHappens h TransferEnd
+  unfolding happened eventChecks ran acted begins
+  transfer-happens = still h (left h TransferEnd) (passes h TransferEnd) refl
+
+-- ---- an end
+-- the memory's record after it, told by the samples held
+pushed-ovf : (f : Fifo) (n : ℕ) → n ≡ f .held → pushedTo f .ovf ≡ (if ltb n 512 then f .ovf else true)
+unfolding pushedTo
+pushed-ovf f n e = rw e (by (ltb (f .held) 512))
+  where
+    by : (t : Bool)
+        → (if_then_else_ {A = Fifo} t (record { held = f .held + 1; ovf = f .ovf }) (record { held = f .held; ovf = true })) .ovf ≡ (if t then f .ovf else true)
+    by true = refl
+    by false = refl
+
+end-happens : (h : Held) (code : ℤ) → SFits w16 code → length (h .samples) ≡ h .board .fifo .held → HeldHappens h (ConversionEnd code)
+unfolding happened eventChecks ran acted begins
+end-happens h code fits e = by (h .board .converter .converting) refl
+  where
+    by : (t : Bool) → h .board .converter .converting ≡ t
+        → Happens (eqb (if not t then 4 else 0) 0 && begins (h .board) (ConversionEnd code)) (if eqb (if not t then 4 else 0) 0 then some code else none)
+        (shown h) (shown (if eqb (if not t then 4 else 0) 0 then left h (ConversionEnd code) else h))
+    by true k =
+        end code (code-of-sample code fits) refl refl k
+        (ap (λ (o : Bool). record { converter = ended (h .board .converter); held = pushed (h .samples) (sampleOf code); ovf = o })
+        (pushed-ovf (h .board .fifo) (length (h .samples)) e))
+    by false k = quiet refl refl refl
+
+-- ---- any
+held-happens : (h : Held) (w : World) → length (h .samples) ≡ h .board .fifo .held → HeldHappens h (eventIn w)
+held-happens h (conversion-end code fits) e = end-happens h code fits e
+held-happens h (din-pins d) e = din-happens h d
+held-happens h (latch-level high) e = latch-happens h high
+held-happens h (port-pins q v) e = port-happens h q v
+held-happens h tick e = tick-happens h
+held-happens h transfer-end e = transfer-happens h
+
+pub happens : (l : Lent) (w : World) → Works l
+    → Happens (real .begins l (eventIn w)) (real .ends l (eventIn w)) (real .view l) (real .view (real .stepped l (eventIn w)))
+happens l w k = happens-held l (eventIn w) k (held-happens (holds l) w (length-queue (l .board .fifo) (l .memory) (k .board .fifo)))

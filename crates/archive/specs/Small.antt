@@ -1,0 +1,116 @@
+-- A small board, which is its own view (specs/SmallLaws.antt: it obeys the laws of a board). Each DIN event is an edge of the external
+-- trigger, a conversion's end ends the conversion in progress, and of the bus it has the writes of 2, 3, 7 and 9, the reads of 7 and 8, and
+-- the word read. Every other event answers ok and changes nothing; so does a write of 11, since no view shows the range.
+use Prim.Native.Nat.{ℕ, _+_, _%_}
+use mathlib.Core.Bool.{Bool, false, not, _&&_}
+use mathlib.Core.List.{List, [], _∷_}
+use mathlib.Core.Option.{Option, none, some}
+use lib.IntN.{ℤ}
+use lib.Dec.{eqb, leb}
+use lib.ListN.{length}
+use Rattle.base.specs.Choice.{if_then_else_}
+use Rattle.base.specs.Fields.{bit}
+use Rattle.base.specs.Weights.{weightOf}
+use Rattle.fifo.specs.Samples.{oldestOf}
+use Rattle.converter.specs.Channels.{endStarts}
+use Rattle.converter.specs.Codes.{sampleOf}
+use Rattle.converter.specs.Registers.{withBits, statusBits}
+use Rattle.requests.specs.Registers.{FIFORST}
+use Rattle.board.specs.declared.Answer.{Answer}
+use Rattle.board.specs.declared.Answer.the-variants.{Done, Byte, Word}
+use Rattle.board.specs.declared.Event.{Event}
+use Rattle.board.specs.declared.Event.the-variants.{WriteByte, ReadByte, ReadWord, ConversionEnd, DinPins, LatchLevel, PortPins, Tick, TransferEnd}
+use Rattle.turns.specs.Machine.{View, Machine}
+use Rattle.archive.specs.Bits.{statusByte}
+use Rattle.archive.specs.Laws.{starting, ending, clocked, lowered, raised, leaving}
+
+-- ---- the bus
+-- 7: SCANEN is stored, also beside FIFORST, which empties the memory and clears OVF
+abbrev pub scanned : View → ℕ → View
+scanned v x =
+    record { converter = withBits (v .converter) (bit x 4) (v .converter .clken); held = v .held; ovf = v .ovf }
+
+abbrev pub emptied : View → View
+emptied v = record { converter = v .converter; held = []; ovf = false }
+
+abbrev pub fifoWritten : View → ℕ → View
+fifoWritten v x = if FIFORST x then emptied (scanned v x) else scanned v x
+
+-- 2: L4-0; 3: H4-0; 9: CLKEN
+abbrev pub written : View → ℕ → ℕ → View
+written v n x =
+    if eqb n 2 then lowered (x % 32) v
+    else if eqb n 3 then raised (x % 32) v
+    else if eqb n 7 then fifoWritten v x
+    else if eqb n 9 then clocked (bit x 2) v
+    else v
+
+-- 7: EF HF FF OVF, SCANEN; 8: STS, single-ended inputs, ADCH4-0
+abbrev pub fifoByte : View → ℕ
+fifoByte v =
+    statusByte (leb (length (v .held)) 0) (leb 256 (length (v .held))) (leb 512 (length (v .held))) (v .ovf)
+    (weightOf (v .converter .scanen) 4) 0
+
+abbrev pub adByte : View → ℕ
+adByte v = statusBits (v .converter) + 96
+
+abbrev pub readAnswer : View → ℕ → Answer
+readAnswer v n = if eqb n 7 then Byte (fifoByte v) else if eqb n 8 then Byte (adByte v) else Done
+
+-- the word read takes the oldest sample; with none held it changes nothing
+abbrev pub fetched : View → List ℕ → View
+fetched v [] = v
+fetched v (c ∷ rest) = leaving rest v
+
+-- ---- any event
+-- an edge begins a conversion with CLKEN, unless one runs
+abbrev pub edgeBegins : View → Bool
+edgeBegins v = v .converter .clken && not (v .converter .converting)
+
+abbrev pub smallStep : View → Event → View
+smallStep v (WriteByte n x) = written v n x
+smallStep v (ReadByte n) = v
+smallStep v (ReadWord n) = if eqb n 0 then fetched v (v .held) else v
+smallStep v (ConversionEnd code) = if v .converter .converting then ending (sampleOf code) v else v
+smallStep v (DinPins d) = if edgeBegins v then starting v else v
+smallStep v (LatchLevel high) = v
+smallStep v (PortPins q x) = v
+smallStep v Tick = v
+smallStep v TransferEnd = v
+
+abbrev pub smallAnswer : View → Event → Answer
+smallAnswer v (WriteByte n x) = Done
+smallAnswer v (ReadByte n) = readAnswer v n
+smallAnswer v (ReadWord n) = if eqb n 0 then Word (oldestOf (v .held)) else Done
+smallAnswer v (ConversionEnd code) = Done
+smallAnswer v (DinPins d) = Done
+smallAnswer v (LatchLevel high) = Done
+smallAnswer v (PortPins q x) = Done
+smallAnswer v Tick = Done
+smallAnswer v TransferEnd = Done
+
+abbrev pub smallBegins : View → Event → Bool
+smallBegins v (WriteByte n x) = false
+smallBegins v (ReadByte n) = false
+smallBegins v (ReadWord n) = false
+smallBegins v (ConversionEnd code) = v .converter .converting && endStarts (v .converter)
+smallBegins v (DinPins d) = edgeBegins v
+smallBegins v (LatchLevel high) = false
+smallBegins v (PortPins q x) = false
+smallBegins v Tick = false
+smallBegins v TransferEnd = false
+
+abbrev pub smallEnds : View → Event → Option ℤ
+smallEnds v (WriteByte n x) = none
+smallEnds v (ReadByte n) = none
+smallEnds v (ReadWord n) = none
+smallEnds v (ConversionEnd code) = if v .converter .converting then some code else none
+smallEnds v (DinPins d) = none
+smallEnds v (LatchLevel high) = none
+smallEnds v (PortPins q x) = none
+smallEnds v Tick = none
+smallEnds v TransferEnd = none
+
+abbrev pub small : Machine
+small =
+    record { Board = View; stepped = smallStep; answered = smallAnswer; view = λ v. v; begins = smallBegins; ends = smallEnds }

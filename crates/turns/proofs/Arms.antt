@@ -1,0 +1,50 @@
+-- Laws of the two ways out of `turn`, over plain values. Assumes nothing.
+use Prim.Native.Nat.{ℕ}
+use mathlib.Core.Path.{_≡_, refl, sym, ap, _∙_}
+use mathlib.Core.List.{List}
+use Rattle.machine.specs.declared.Board.{Board}
+use Rattle.board.specs.Step.{stepOf, memoryAfter, eepromAfter}
+use Rattle.board.specs.declared.Event.{Event}
+use Rattle.board.specs.declared.Outcome.{Outcome}
+use Rattle.collector.specs.declared.Collector.{Collector}
+use Rattle.collector.specs.Reply.{accessOf}
+use Rattle.turns.specs.declared.Asked.{Asked}
+use Rattle.turns.specs.declared.Asked.the-variants.{Made, NotMade}
+use Rattle.turns.specs.declared.Brought.{Brought}
+use Rattle.turns.specs.declared.Brought.the-variants.{Answered, NotAnswered}
+use Rattle.turns.specs.declared.Turned.{Turned}
+use Rattle.turns.specs.Turn.{Turning, eventOf, broughtBy, unturned, broughtTo, turnBy}
+use Rattle.turns.specs.Real.{Lent, lent, real, words, asStruct, lentTurn, Left}
+
+-- what is brought to the collector does not depend on what stands for the board
+apart : (c : Collector) (l : Lent) (b : Board) (x : Brought) → l .board ≡ b
+    → asStruct (broughtTo words c b x)
+    ≡ record {
+      collector = broughtTo words c l x .collector;
+      board = broughtTo words c l x .board .board;
+      polls = broughtTo words c l x .polls;
+      handed = broughtTo words c l x .handed;
+    }
+apart c l b (Answered a) h = rw h
+apart c l b (NotAnswered n) h = rw h
+
+board-stays : (c : Collector) (l : Lent) (x : Brought) → broughtTo words c l x .board ≡ l
+board-stays c l (Answered a) = refl
+board-stays c l (NotAnswered n) = refl
+
+pub made : (c : Collector) (b : Board) (m e : List ℕ) (ev : Event) (o : Outcome) (r : Turned) (m′ e′ : List ℕ)
+    → eventOf (accessOf c) ≡ Made ev → o ≡ stepOf b m e ev → m′ ≡ memoryAfter b m e ev → e′ ≡ eepromAfter b m e ev
+    → r ≡ asStruct (broughtTo words c (o .board) (broughtBy (o .answer))) → Left (lentTurn c b m e) r m′ e′
+made c b m e ev o r m′ e′ h p q s t =
+    let l : Lent = real .stepped (lent b m e) ev in
+    let x : Brought = broughtBy (stepOf b m e ev .answer) in
+    rw h
+    (record {
+      turned = t ∙ rw p (apart c l (stepOf b m e ev .board) x refl);
+      memory = q ∙ sym (ap (λ (k : Lent). k .memory) (board-stays c l x));
+      eeprom = s ∙ sym (ap (λ (k : Lent). k .eeprom) (board-stays c l x));
+    })
+
+pub unmade : (c : Collector) (b : Board) (m e : List ℕ) (n : ℕ) (r : Turned)
+    → eventOf (accessOf c) ≡ NotMade n → r ≡ asStruct (unturned c b n) → Left (lentTurn c b m e) r m e
+unmade c b m e n r h t = rw h (record { turned = t; memory = refl; eeprom = refl })

@@ -1,0 +1,11 @@
+-- `turns::with_answer` meets its contract. Assumes nothing.
+use borrow.Author.Needs.{needs}
+use Rattle.turns.proofs.with_answer.Statement.{statement}
+use Rattle.turns.proofs.with_answer.Tie as tie
+
+pub with-answer-spec : {M : Type 1} → statement M
+with-answer-spec =
+    tie.close
+    (tie.spec
+    (λ c κs. search needs)
+    (λ c. rw (c .before .take-answer .ensures)))

@@ -1,0 +1,58 @@
+-- One turn: the access that the collector names is made as an event of the board, and the board's answer is handed to the collector (the
+-- specification, "The collector").
+use Prim.Native.Nat.{ℕ}
+use Rattle.board.specs.declared.Answer.{Answer}
+use Rattle.board.specs.declared.Answer.the-variants.{Done, Byte, Word, Refused}
+use Rattle.board.specs.declared.Event.{Event}
+use Rattle.board.specs.declared.Event.the-variants as event
+use Rattle.collector.specs.declared.Access.{Access}
+use Rattle.collector.specs.declared.Access.the-variants.{WriteByte, ReadByte, ReadWord, NoAccess}
+use Rattle.collector.specs.declared.Collector.{Collector}
+use Rattle.collector.specs.declared.Handed.{Handed}
+use Rattle.collector.specs.declared.Handed.the-variants as handed
+use Rattle.collector.specs.declared.Taken.{Taken}
+use Rattle.turns.specs.declared.Asked.{Asked}
+use Rattle.turns.specs.declared.Asked.the-variants.{Made, NotMade}
+use Rattle.turns.specs.declared.Brought.{Brought}
+use Rattle.turns.specs.declared.Brought.the-variants.{Answered, NotAnswered}
+use Rattle.turns.specs.Machine.{Machine, Host}
+
+-- the event of an access
+abbrev pub eventOf : Access → Asked
+eventOf (WriteByte offset value) = Made (event.WriteByte offset value)
+eventOf (ReadByte offset) = Made (event.ReadByte offset)
+eventOf (ReadWord offset) = Made (event.ReadWord offset)
+eventOf (NoAccess number) = NotMade number
+
+-- what the bus brought; the answer to a write isn't looked at, and 0 stands for it
+abbrev pub broughtBy : Answer → Brought
+broughtBy Done = Answered (record { number = 0 })
+broughtBy (Byte byte) = Answered (record { number = byte })
+broughtBy (Word word) = Answered (record { number = word })
+broughtBy (Refused number) = NotAnswered number
+
+-- after a turn: the collector, the board, the polls reported, and what is handed over
+pub record Turning (B : Type 0) : Type 0 where
+  pub collector : Collector
+  pub board : B
+  pub polls : ℕ
+  pub handed : Handed
+
+-- nothing was brought: the collector stays, and the number says why
+abbrev pub unturned : {B : Type 0} → Collector → B → ℕ → Turning B
+unturned c b number = record { collector = c; board = b; polls = c .polls; handed = handed.Refused number }
+
+-- the collector has taken what was brought
+abbrev pub takenBy : {B : Type 0} → Taken → B → Turning B
+takenBy taken b = record { collector = taken .collector; board = b; polls = taken .polls; handed = taken .handed }
+
+abbrev pub broughtTo : {B : Type 0} → Host → Collector → B → Brought → Turning B
+broughtTo H c b (Answered a) = takenBy (H .reply c (a .number)) b
+broughtTo H c b (NotAnswered number) = unturned c b number
+
+abbrev pub turnBy : (M : Machine) (H : Host) → Asked → Collector → M .Board → Turning (M .Board)
+turnBy M H (Made ev) c b = broughtTo H c (M .stepped b ev) (broughtBy (M .answered b ev))
+turnBy M H (NotMade number) c b = unturned c b number
+
+abbrev pub turnOf : (M : Machine) (H : Host) → Collector → M .Board → Turning (M .Board)
+turnOf M H c b = turnBy M H (eventOf (H .access c)) c b
