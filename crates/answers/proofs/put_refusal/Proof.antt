@@ -1,0 +1,15 @@
+-- `answers::put_refusal` meets its contract. Assumes nothing.
+use borrow.Author.Needs.{needs}
+use Rattle.words.proofs.Writing.{wrote-then}
+use Rattle.answers.proofs.put_refusal.Statement.{statement}
+use Rattle.answers.proofs.put_refusal.Tie as tie
+
+pub put-refusal-spec : {M : Type 1} → statement M
+put-refusal-spec =
+    tie.close
+    (tie.spec
+    (λ c. search needs)
+    (λ c κs. search needs)
+    (λ c κs. search needs)
+    (λ c. search needs)
+    (λ c. wrote-then (c .before .before .before .before .before .before .copy .ensures) (c .before .before .put-decimal .ensures)))

@@ -1,0 +1,4 @@
+pub mod Session
+pub mod Feeding
+pub mod Pieces
+pub mod Lines

@@ -1,0 +1,4 @@
+// The session program.
+fn main() {
+    terminal::run();
+}
