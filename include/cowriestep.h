@@ -1,31 +1,381 @@
 /*
- * Cowriestep: the Diamond-MM-32-AT board as plain C functions. Every function is proved to answer what its comment says, for all inputs.
+ * Cowriestep: the Diamond-MM-32-AT board as plain C functions. Every function is proved to do what its comment says, for all inputs.
  *
- * Link with the static libraries that `rt staticlib volts` and `rt staticlib codes` write: target/staticlib/libvolts.a and libcodes.a.
- * The functions keep nothing between calls, read and write no memory of the host's, and may be called from any thread.
+ * Link with the static library that `rt staticlib cowriestep` writes: target/staticlib/libcowriestep.a.
+ * "The manual" is the board's, V2.64, with the data sheet of its 82C54 timer.
+ *
+ * Who owns what. The host keeps one record (struct dmm32_board), a sample memory of 512 numbers and an EEPROM of 128 bytes for each board, and lends
+ * all three to a call. The library keeps nothing between calls, allocates nothing and has no state of its own: boards are independent, a record may
+ * be copied or saved, and calls over different boards may run in different threads.
+ *
+ * Any other value of any parameter is answered, wrong lengths and damaged records too. The host's own duty is:
+ *   - no pointer is null, also where its length is 0; each points to what its type says, aligned as C aligns it, and a length is not more than what is there
+ *   - record, sample memory and EEPROM of one call do not overlap, and no other thread uses them during the call
+ *   - a bool, as a parameter or inside a record, is 0 or 1 (C's own conversion to bool makes it so)
+ * The records have padding bytes, which are not looked at and may change: compare records field by field.
  */
 #ifndef COWRIESTEP_H
 #define COWRIESTEP_H
 
+#include <stdbool.h>
+#include <stddef.h>
 #include <stdint.h>
 
 #ifdef __cplusplus
 extern "C" {
 #endif
 
-/*
- * Refusals. Where a function answers a uint32_t, a number below 65536 is the answer, and any other is a refusal: 65536 and its number.
- * No answer is 65536 or more, so neither can be taken for the other.
- */
-#define COWRIESTEP_IS_REFUSAL(n) ((n) >= UINT32_C(65536))
-#define COWRIESTEP_REFUSAL(n) ((n) - UINT32_C(65536))
+/* ---- the lengths of the two memories */
 
+#define COWRIESTEP_MEMORY_LENGTH 512         /* numbers in a sample memory */
+#define COWRIESTEP_EEPROM_LENGTH 128         /* bytes in an EEPROM */
+
+/* ---- refusals, by the numbers of the specification. What is refused changes nothing, but for 15 */
+
+#define COWRIESTEP_REFUSED_RECORD 1          /* the record or the sample memory is not a working board's, or a collector's record is unfit */
+#define COWRIESTEP_REFUSED_LENGTH 2          /* the sample memory is not 512 long, or the EEPROM not 128 */
+#define COWRIESTEP_REFUSED_OFFSET 3          /* an offset above 15, or a word read that is not at offset 0 */
+#define COWRIESTEP_REFUSED_NO_CONVERSION 4   /* a conversion end while no conversion is in progress */
+#define COWRIESTEP_REFUSED_DIN 5             /* DIN levels above 15 */
+#define COWRIESTEP_REFUSED_BUSY 6            /* a write to 4 or 5 while DACBUSY, or on page 3 to 12-14 while a transfer runs */
+#define COWRIESTEP_REFUSED_NOT_MODELLED 7    /* a setting that is not modelled: any access to page 2, offset 15; on page 0 a control word for modes 1, 3, 4 or 5,
+                                                BCD or read-back, a count for an unprogrammed counter, count 1 in mode 2; on page 1 a control byte with bit 7
+                                                clear or a mode bit set */
+#define COWRIESTEP_REFUSED_NO_KEY 8          /* an EEPROM command without the key */
+#define COWRIESTEP_REFUSED_COMMANDS 9        /* more than one of EE_EN, RUNCAL, TDACEN */
+#define COWRIESTEP_REFUSED_NO_TRANSFER 10    /* a transfer end while none runs */
+#define COWRIESTEP_REFUSED_CHANNELS 11       /* a range of channels with low above high, or high above 31 */
+#define COWRIESTEP_REFUSED_JUMPERS 12        /* a range of channels that includes one the jumpers lack */
 #define COWRIESTEP_REFUSED_RANGE_CODE 13     /* an input range code 4 to 7 or above 15 */
+#define COWRIESTEP_REFUSED_POLL_LIMIT 14     /* a poll limit of 0 or above 1,000 */
+#define COWRIESTEP_REFUSED_STUCK 15          /* STS is still 1 at the last poll: the collector is stuck, and answers 15 from then on */
+#define COWRIESTEP_REFUSED_STATUS 16         /* a status that has EF with HF or FF, or OVF without FF */
+#define COWRIESTEP_REFUSED_NO_BYTE 17        /* an answer above 255 to a byte read */
 #define COWRIESTEP_REFUSED_VOLTAGE 18        /* an output voltage below its range, or one whose code is above 4095 */
 #define COWRIESTEP_REFUSED_OUTPUT 19         /* an output range or channel that is unknown */
 
 /*
- * A/D codes as volts (manual, chapter 9).
+ * ---- the answer to an event: one number
+ *
+ *     bits 31-29   the kind: done, byte, word, refused
+ *     bits 28-24   the number of the refusal; 0 where nothing is refused
+ *     bits 23-16   0; read answers by the macros below, since a status may come to stand here
+ *     bits 15-0    the byte or the word that was read; 0 where nothing is read
+ *
+ * so that no answer can be taken for another: done is 0, the byte 0 is 0x20000000, refusal 1 is 0x61000000.
+ */
+#define COWRIESTEP_KIND(answer) ((answer) >> 29)
+#define COWRIESTEP_REFUSAL(answer) ((answer) >> 24 & 31)
+#define COWRIESTEP_NUMBER(answer) ((uint16_t)((answer) & 65535))
+
+#define COWRIESTEP_DONE 0                    /* done; nothing is read */
+#define COWRIESTEP_BYTE 1                    /* a byte was read */
+#define COWRIESTEP_WORD 2                    /* a sample was read */
+#define COWRIESTEP_REFUSED 3                 /* refused */
+
+/* ---- the record of a board. In brackets: what a working board has; where there are none, any value. Otherwise every event is refused by 1 */
+
+/* channels and conversions (manual 10, 11.3, 11.4) */
+struct dmm32_converter {
+    uint8_t low;                             /* low channel, Base + 2 [0-31] */
+    uint8_t high;                            /* high channel, Base + 3 [0-31]; it may be below low */
+    uint8_t selected;                        /* the channel that the next conversion takes [0-31] */
+    uint8_t channel;                         /* the channel of the conversion in progress, or of the last one [0-31] */
+    bool converting;                         /* STS: a conversion is in progress */
+    bool scanen;                             /* SCANEN, Base + 7 bit 2 */
+    bool clken;                              /* CLKEN, Base + 9 bit 1 */
+};
+
+/* request flags, as in Base + 9 read: the board asks for an interrupt while one of them is set */
+struct dmm32_flags {
+    bool adint;                              /* bit 7 */
+    bool dint;                               /* bit 6 */
+    bool tint;                               /* bit 5 */
+};
+
+/* what is requested when (manual 11.1, 11.2) */
+struct dmm32_requests {
+    uint8_t threshold;                       /* Base + 6: the threshold is twice this byte */
+    bool fifoen;                             /* FIFOEN, Base + 7 bit 3 */
+    bool clksel;                             /* CLKSEL, Base + 9 bit 0 */
+    bool adinte;                             /* ADINTE, Base + 9 bit 7 */
+    bool dinte;                              /* DINTE, Base + 9 bit 6 */
+    bool tinte;                              /* TINTE, Base + 9 bit 5 */
+    struct dmm32_flags flags;
+};
+
+/* the sample memory's state (manual 11.2). The samples held are the first `held` numbers of the memory, oldest first [the other numbers are 0] */
+struct dmm32_fifo {
+    uint16_t held;                           /* samples held [0-512] */
+    bool ovf;                                /* OVF: a sample was lost [only at 512 held] */
+};
+
+struct dmm32_registers {
+    uint8_t page;                            /* page, Base + 8 bits 1-0 [0-3] */
+    uint8_t dout;                            /* DOUT2-0, Base + 1 [0-7] */
+    uint8_t counting;                        /* Base + 10 as written: FREQ12, FREQ0, OUT2EN, OUT0EN, RSVD, GT0EN, SRC0, GT12EN */
+    uint8_t range;                           /* range code, low four bits of Base + 11 [0-15] */
+};
+
+/* the analogue outputs (manual 13, 14) */
+struct dmm32_codes {
+    uint16_t out0;                           /* what channel 0 puts out [0-4095] */
+    uint16_t out1;                           /* channel 1 [0-4095] */
+    uint16_t out2;                           /* channel 2 [0-4095] */
+    uint16_t out3;                           /* channel 3 [0-4095] */
+};
+
+struct dmm32_load {
+    bool loaded;                             /* whether Base + 5 was written since a reset */
+    uint8_t channel;                         /* the channel that it loaded [0-3] */
+    uint16_t code;                           /* the code that it loaded [0-4095] */
+};
+
+struct dmm32_outputs {
+    struct dmm32_codes codes;
+    struct dmm32_load load;
+    uint8_t lsb;                             /* the holding byte, Base + 4 */
+    uint8_t busy;                            /* ticks of DACBUSY that are left [0-100] */
+};
+
+/* one counter of the 82C54 (manual 17, 19) */
+struct dmm32_count {
+    uint16_t count_register;                 /* the count to load, CR; 0 is 65,536 [not 1 in mode 2] */
+    uint16_t element;                        /* the count as it stands, CE */
+    bool out;                                /* OUT [1 in an unprogrammed counter] */
+    bool waiting;                            /* a whole count was written and is loaded on the next clock pulse */
+    bool loaded;                             /* a count was loaded since the control word */
+};
+
+struct dmm32_counter_bytes {
+    uint16_t latch;                          /* the latched count, OL */
+    bool latched;                            /* whether a count is latched */
+    bool halfread;                           /* the low byte of two was read */
+    uint8_t first;                           /* the low byte of two that was written */
+    bool halfwritten;                        /* the low byte of two was written */
+};
+
+struct dmm32_counter {
+    uint8_t control;                         /* the control word's bits 5-0 as written, RW1 RW0 M2 M1 M0 BCD; 0: unprogrammed
+                                                [0, or below 64 with RW not 0, BCD 0 and M2 M1 M0 one of 000, 010, 110] */
+    bool trigger;                            /* the flip-flop that a rising GATE sets in mode 2 */
+    struct dmm32_count count;
+    struct dmm32_counter_bytes bytes;
+};
+
+struct dmm32_timer {
+    struct dmm32_counter counter0;
+    struct dmm32_counter counter1;
+    struct dmm32_counter counter2;
+};
+
+struct dmm32_clocks {
+    struct dmm32_timer timer;
+    uint16_t hundred;                        /* 10 MHz ticks since the last 100 kHz pulse [0-99] */
+    uint16_t thousand;                       /* 10 MHz ticks since the last 10 kHz pulse [0-999] */
+};
+
+/* a byte for each port of the 82C55 */
+struct dmm32_lines {
+    uint8_t a;
+    uint8_t b;
+    uint8_t c;
+};
+
+/* the 82C55 in mode 0 (manual 8.2, 16) */
+struct dmm32_ports {
+    uint8_t control;                         /* the control byte: bit 4 DIRA, 3 DIRCH, 1 DIRB, 0 DIRCL, 1 is input [bit 7 is 1, bits 6, 5, 2 are 0] */
+    struct dmm32_lines latches;              /* the output latches */
+    struct dmm32_lines pins;                 /* the levels that the host gave to the pins */
+};
+
+/* calibration (manual 8.4, 15; page 3) */
+struct dmm32_calibration {
+    uint8_t value;                           /* the data register, offset 12 */
+    uint8_t address;                         /* the address register, offset 13 [0-127] */
+    uint8_t transfer;                        /* the transfer that runs: 0 none, 1 EEPROM read, 2 EEPROM write, 3 RUNCAL, 4 TrimDAC [0-4] */
+    bool key;                                /* whether the key A5 was written */
+    bool cmuxen;                             /* CMUXEN */
+    uint8_t trim[8];                         /* the TrimDAC's values */
+};
+
+/* the levels of the pins that the host gave */
+struct dmm32_pins {
+    uint8_t din;                             /* DIN3-0 [0-15] */
+    bool latch;                              /* the Latch pin */
+};
+
+/* the jumpers (manual 5.4, 5.5) */
+struct dmm32_wiring {
+    uint8_t inputs;                          /* channel configuration, COWRIESTEP_JUMPERS_A to _D [0-3] */
+    bool zeroscale;                          /* RESETA sets the outputs to 0, else to 2048 */
+};
+
+struct dmm32_board {
+    struct dmm32_converter converter;
+    struct dmm32_requests requests;
+    struct dmm32_fifo fifo;
+    struct dmm32_registers registers;
+    struct dmm32_outputs outputs;
+    struct dmm32_clocks clocks;
+    struct dmm32_ports ports;
+    struct dmm32_calibration calibration;
+    struct dmm32_pins pins;
+    struct dmm32_wiring wiring;
+};
+
+/* ---- fresh boards */
+
+#define COWRIESTEP_JUMPERS_A 0               /* channels 0-31 */
+#define COWRIESTEP_JUMPERS_B 1               /* channels 0-15 */
+#define COWRIESTEP_JUMPERS_C 2               /* channels 0-15 and 24-31 */
+#define COWRIESTEP_JUMPERS_D 3               /* channels 0-23 */
+
+/*
+ * A fresh board's record: as after RESETA, counters unprogrammed, dividers 0, DIN 15, Latch and port pins 0, TrimDAC 0. zero_scale says whether the
+ * outputs are jumpered to go to 0 at a RESETA, else to 2048. jumpers above 3 are no configuration: the record that comes back keeps the number in
+ * wiring.inputs and is otherwise fresh, so it is no working board's, and every event is refused by 1.
+ */
+struct dmm32_board dmm32_fresh(uint8_t jumpers, bool zero_scale);
+
+/* Zeroes a sample memory and an EEPROM, as a fresh board has them, and answers done; or, with wrong lengths, leaves both and answers refusal 2. */
+uint32_t dmm32_fresh_stores(uint16_t *memory, size_t memory_length, uint8_t *eeprom, size_t eeprom_length);
+
+/* Whether the record and the sample memory are a working board's: false where an event would be refused by 1, or by 2 for the sample memory's length. */
+bool dmm32_is_working(struct dmm32_board board, const uint16_t *memory, size_t memory_length);
+
+/*
+ * ---- events
+ *
+ * Each changes the record and both memories as the board would be changed, and answers one number as above. Check order: 2, 1, then 3 or 5, then 4 or 10,
+ * then 6, 9, 8, 7; the first that holds is the answer, and then nothing changes. Every event can answer 2 and 1; the others are named below.
+ * Offsets, bytes and levels are 8 bits wide and codes 16, as on the board's bus; a number that its type can't hold is cut by C itself at the call.
+ */
+
+/* The guest writes a byte at Base + offset. Done, or refusal 3, 6, 7, 8, 9. */
+uint32_t dmm32_write_byte(struct dmm32_board *board, uint16_t *memory, size_t memory_length, uint8_t *eeprom, size_t eeprom_length, uint8_t offset, uint8_t value);
+
+/* The guest reads a byte at Base + offset. The byte, or refusal 3, 7. */
+uint32_t dmm32_read_byte(struct dmm32_board *board, uint16_t *memory, size_t memory_length, uint8_t *eeprom, size_t eeprom_length, uint8_t offset);
+
+/* The guest reads a word at Base + offset: the oldest sample, which leaves, or FFFF where none is held. The word, or refusal 3 at any offset but 0. */
+uint32_t dmm32_read_word(struct dmm32_board *board, uint16_t *memory, size_t memory_length, uint8_t *eeprom, size_t eeprom_length, uint8_t offset);
+
+/*
+ * The conversion in progress ends with a code, that of channel board->converter.channel; board->converter.converting says whether there is one, also
+ * after an end, which may start the next of a scan. Done, or refusal 4.
+ */
+uint32_t dmm32_conversion_end(struct dmm32_board *board, uint16_t *memory, size_t memory_length, uint8_t *eeprom, size_t eeprom_length, int16_t code);
+
+/* The pins DIN3-0 take the levels of bits 3-0. Done, or refusal 5 above 15. */
+uint32_t dmm32_din(struct dmm32_board *board, uint16_t *memory, size_t memory_length, uint8_t *eeprom, size_t eeprom_length, uint8_t lines);
+
+/* The Latch pin takes a level. Done. */
+uint32_t dmm32_latch(struct dmm32_board *board, uint16_t *memory, size_t memory_length, uint8_t *eeprom, size_t eeprom_length, bool high);
+
+/* The pins of port A, B or C take the levels of a byte. Done. One function for each port: no port number can be wrong. */
+uint32_t dmm32_port_a_pins(struct dmm32_board *board, uint16_t *memory, size_t memory_length, uint8_t *eeprom, size_t eeprom_length, uint8_t pins);
+uint32_t dmm32_port_b_pins(struct dmm32_board *board, uint16_t *memory, size_t memory_length, uint8_t *eeprom, size_t eeprom_length, uint8_t pins);
+uint32_t dmm32_port_c_pins(struct dmm32_board *board, uint16_t *memory, size_t memory_length, uint8_t *eeprom, size_t eeprom_length, uint8_t pins);
+
+/* One tick of the 10 MHz clock. Done. */
+uint32_t dmm32_tick(struct dmm32_board *board, uint16_t *memory, size_t memory_length, uint8_t *eeprom, size_t eeprom_length);
+
+/* The calibration transfer that runs ends. Done, or refusal 10. */
+uint32_t dmm32_transfer_end(struct dmm32_board *board, uint16_t *memory, size_t memory_length, uint8_t *eeprom, size_t eeprom_length);
+
+/*
+ * ---- the collector: it stops, sets and starts a board, empties its sample memory and hands the samples over
+ *
+ * Its record names one bus access at a time. The host asks for the access, makes it, and brings the answer back; what comes back has the next record.
+ * All records go by value.
+ */
+
+/* What a start is given. */
+struct dmm32_settings {
+    uint8_t low;                             /* the range of channels, low to high; refusal 11, 12 */
+    uint8_t high;
+    uint8_t jumpers;                         /* COWRIESTEP_JUMPERS_A to _D; another number has no channel at all: refusal 12 */
+    uint8_t range;                           /* the range code for Base + 11; refusal 13 */
+    uint8_t clock;                           /* 0: external clock; any other number: internal clock */
+    uint16_t limit;                          /* how often a start may poll STS, 1 to 1,000; refusal 14 */
+};
+
+/*
+ * The record. It is fit where its settings would start, next is from low to high, polls is at most limit (below it in phase 1, 0 in phase 0), left is
+ * 1 to 512 in phase 9, and the phase is 0 to 10.
+ */
+struct dmm32_collector {
+    struct dmm32_settings settings;
+    uint8_t phase;                           /* 0: write 0 to 9; 1: read 8; 2: write the range code to 11; 3: write 2 to 7; 4: write low to 2; 5: write high to 3;
+                                                6: write 2 to 9, or 3 for the internal clock; 7: read 7; 8: read a word; 9: read 512 words; 10: stuck */
+    uint8_t next;                            /* the channel of the next sample */
+    uint16_t polls;                          /* the reads of 8 since this start whose answers were taken */
+    uint16_t left;                           /* in phase 9, the word reads that are left */
+};
+
+/* A start: the record, and 0; or a record of zeros, which is unfit, and the refusal 14, 11, 12 or 13, in this order. */
+struct dmm32_start {
+    struct dmm32_collector collector;
+    uint8_t refusal;
+};
+
+struct dmm32_start dmm32_collector_start(struct dmm32_settings settings);
+
+/* Whether a record is fit. */
+bool dmm32_collector_is_fit(struct dmm32_collector collector);
+
+/* The access that a collector makes now. What a kind does not have is 0. */
+struct dmm32_access {
+    uint8_t kind;                            /* COWRIESTEP_ACCESS_NONE, _WRITE_BYTE, _READ_BYTE, _READ_WORD */
+    uint8_t offset;
+    uint8_t value;                           /* the byte to write */
+    uint8_t refusal;                         /* of kind none: 1 unfit, 15 stuck */
+};
+
+#define COWRIESTEP_ACCESS_NONE 0
+#define COWRIESTEP_ACCESS_WRITE_BYTE 1
+#define COWRIESTEP_ACCESS_READ_BYTE 2
+#define COWRIESTEP_ACCESS_READ_WORD 3
+
+struct dmm32_access dmm32_collector_access(struct dmm32_collector collector);
+
+/* What the bus brought: COWRIESTEP_NUMBER of the board's answer. After a write, any number: it is not looked at. */
+struct dmm32_bus_answer {
+    uint16_t number;
+};
+
+/* A sample that is handed over: its channel and its signed code. */
+struct dmm32_sample {
+    uint8_t channel;
+    int16_t code;
+};
+
+/* The collector after an answer, and what is handed over. What a kind does not have is 0. */
+struct dmm32_taken {
+    struct dmm32_collector collector;        /* the next record; a refusal leaves it, but for the poll that gets stuck */
+    uint16_t polls;                          /* polls of this start; with the last sample of a drain, of the start that ends there */
+    uint8_t handed;                          /* COWRIESTEP_HANDED_NOTHING, _START_END, _SAMPLE, _LAST_SAMPLE, _REFUSED */
+    uint8_t refusal;                         /* of kind refused: 1 unfit, 15 stuck, 17 no byte, 16 a status that contradicts itself */
+    struct dmm32_sample sample;              /* of kinds sample and last sample */
+};
+
+#define COWRIESTEP_HANDED_NOTHING 0
+#define COWRIESTEP_HANDED_START_END 1        /* the last write of a start was made: samples from here belong to this run */
+#define COWRIESTEP_HANDED_SAMPLE 2           /* one sample */
+#define COWRIESTEP_HANDED_LAST_SAMPLE 3      /* the last of 512 that are drained: a gap follows, and the collector starts again */
+#define COWRIESTEP_HANDED_REFUSED 4
+
+struct dmm32_taken dmm32_collector_take(struct dmm32_collector collector, struct dmm32_bus_answer answer);
+
+/*
+ * Of samples that start on channel low, how many from the front are whole scans of low to high: the most that are. 0 where low is above high or high
+ * above 31.
+ */
+size_t dmm32_whole_scans(const int16_t *samples, size_t length, uint8_t low, uint8_t high);
+
+/*
+ * ---- A/D codes as volts (manual, chapter 9)
  *
  * code is the sample, -32768 to 32767. range is the range code, as it is written to Base + 11:
  *     0 ±5 V   1 ±2.5 V   2 ±1.25 V   3 ±0.625 V   8 ±10 V   9 ±5 V   10 ±2.5 V   11 ±1.25 V
@@ -36,11 +386,11 @@ extern "C" {
  */
 double dmm32_volts(int16_t code, uint32_t range);
 
-/* 13 where dmm32_volts refuses the range code, 0 where it has volts. This is the bare number, without 65536. */
+/* 13 where dmm32_volts refuses the range code, 0 where it has volts: the bare number. */
 uint32_t dmm32_volts_refusal(uint32_t range);
 
 /*
- * Volts as output codes (manual, chapters 13 and 14).
+ * ---- volts as output codes (manual, chapters 13 and 14)
  *
  * The voltage is in microvolts. The output ranges, which the board has as jumpers, are numbered here:
  */
@@ -48,6 +398,12 @@ uint32_t dmm32_volts_refusal(uint32_t range);
 #define COWRIESTEP_OUTPUT_BIPOLAR_10V 1      /* -10 V to 10 V */
 #define COWRIESTEP_OUTPUT_UNIPOLAR_5V 2      /* 0 V to 5 V */
 #define COWRIESTEP_OUTPUT_UNIPOLAR_10V 3     /* 0 V to 10 V */
+
+/*
+ * These two answer a number below 65536, or a refusal: 65536 and its number. (It is not the answer to an event, and has macros of its own.)
+ */
+#define COWRIESTEP_OUTPUT_IS_REFUSED(n) ((n) >= UINT32_C(65536))
+#define COWRIESTEP_OUTPUT_REFUSAL(n) ((n) - UINT32_C(65536))
 
 /*
  * The 12-bit code, 0 to 4095, whose voltage is nearest to microvolts, halves upward; or a refusal: 19 for an unknown range, then 18 for a voltage

@@ -3,7 +3,7 @@ ghost use mathlib.Core.Path.{_≡_};
 ghost use Rattle.volts.specs.Table.{rowOf};
 ghost use Rattle.volts.specs.Volts.{Answers, readingOf, scaleOf};
 
-mod host;
+pub mod host;
 
 // The volts, or the number of the refusal.
 pub enum Voltage {

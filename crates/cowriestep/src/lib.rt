@@ -1,0 +1,171 @@
+// What C and Rust hosts link (include/cowriestep.h): the lent board, fresh boards, the collector and the formulas, on plain numbers and records of
+// numbers. Here are the events; each calls the step with the record by value and stores what comes back.
+ghost use Rattle.lent.specs.Stepped.{Stepped};
+ghost use Rattle.numbers.specs.Packed.{answerNumber};
+use board::Board;
+use board::Din;
+use board::Event;
+use board::Port;
+
+pub mod others; // fresh boards, the collector and whole scans
+pub mod formulas; // codes as volts, volts as output codes
+
+// The guest writes a byte at an offset.
+#[no_mangle]
+pub extern "C" fn dmm32_write_byte(
+    board: &mut Board,
+    memory: &mut [u16],
+    eeprom: &mut [u8],
+    offset: u8,
+    value: u8,
+) -> u32
+    ensures { λ r. ⌜ Stepped answerNumber (now (board .entry)) (now (memory .entry)) (now (eeprom .entry)) (Event.WriteByte offset value) r (now (board .exit)) (now (memory .exit)) (now (eeprom .exit)) ⌝ }
+{
+    let out = numbers::stepped(*board, memory, eeprom, Event::WriteByte { offset, value });
+    *board = out.board;
+    out.number
+}
+
+// The guest reads a byte at an offset.
+#[no_mangle]
+pub extern "C" fn dmm32_read_byte(
+    board: &mut Board,
+    memory: &mut [u16],
+    eeprom: &mut [u8],
+    offset: u8,
+) -> u32
+    ensures { λ r. ⌜ Stepped answerNumber (now (board .entry)) (now (memory .entry)) (now (eeprom .entry)) (Event.ReadByte offset) r (now (board .exit)) (now (memory .exit)) (now (eeprom .exit)) ⌝ }
+{
+    let out = numbers::stepped(*board, memory, eeprom, Event::ReadByte { offset });
+    *board = out.board;
+    out.number
+}
+
+// The guest reads a word at an offset.
+#[no_mangle]
+pub extern "C" fn dmm32_read_word(
+    board: &mut Board,
+    memory: &mut [u16],
+    eeprom: &mut [u8],
+    offset: u8,
+) -> u32
+    ensures { λ r. ⌜ Stepped answerNumber (now (board .entry)) (now (memory .entry)) (now (eeprom .entry)) (Event.ReadWord offset) r (now (board .exit)) (now (memory .exit)) (now (eeprom .exit)) ⌝ }
+{
+    let out = numbers::stepped(*board, memory, eeprom, Event::ReadWord { offset });
+    *board = out.board;
+    out.number
+}
+
+// The conversion in progress ends with a signed code.
+#[no_mangle]
+pub extern "C" fn dmm32_conversion_end(
+    board: &mut Board,
+    memory: &mut [u16],
+    eeprom: &mut [u8],
+    code: i16,
+) -> u32
+    ensures { λ r. ⌜ Stepped answerNumber (now (board .entry)) (now (memory .entry)) (now (eeprom .entry)) (Event.ConversionEnd code) r (now (board .exit)) (now (memory .exit)) (now (eeprom .exit)) ⌝ }
+{
+    let out = numbers::stepped(*board, memory, eeprom, Event::ConversionEnd { code });
+    *board = out.board;
+    out.number
+}
+
+// DIN3-0 take new levels.
+#[no_mangle]
+pub extern "C" fn dmm32_din(
+    board: &mut Board,
+    memory: &mut [u16],
+    eeprom: &mut [u8],
+    lines: u8,
+) -> u32
+    ensures { λ r. ⌜ Stepped answerNumber (now (board .entry)) (now (memory .entry)) (now (eeprom .entry)) (Event.DinPins (record { lines = lines })) r (now (board .exit)) (now (memory .exit)) (now (eeprom .exit)) ⌝ }
+{
+    let out = numbers::stepped(*board, memory, eeprom, Event::DinPins(Din { lines }));
+    *board = out.board;
+    out.number
+}
+
+// The Latch pin takes a level.
+#[no_mangle]
+pub extern "C" fn dmm32_latch(
+    board: &mut Board,
+    memory: &mut [u16],
+    eeprom: &mut [u8],
+    high: bool,
+) -> u32
+    ensures { λ r. ⌜ Stepped answerNumber (now (board .entry)) (now (memory .entry)) (now (eeprom .entry)) (Event.LatchLevel high) r (now (board .exit)) (now (memory .exit)) (now (eeprom .exit)) ⌝ }
+{
+    let out = numbers::stepped(*board, memory, eeprom, Event::LatchLevel { high });
+    *board = out.board;
+    out.number
+}
+
+// The pins of port A take new levels.
+#[no_mangle]
+pub extern "C" fn dmm32_port_a_pins(
+    board: &mut Board,
+    memory: &mut [u16],
+    eeprom: &mut [u8],
+    pins: u8,
+) -> u32
+    ensures { λ r. ⌜ Stepped answerNumber (now (board .entry)) (now (memory .entry)) (now (eeprom .entry)) (Event.PortPins Port.PortA pins) r (now (board .exit)) (now (memory .exit)) (now (eeprom .exit)) ⌝ }
+{
+    let out = numbers::stepped(*board, memory, eeprom, Event::PortPins(Port::PortA, pins));
+    *board = out.board;
+    out.number
+}
+
+// The pins of port B take new levels.
+#[no_mangle]
+pub extern "C" fn dmm32_port_b_pins(
+    board: &mut Board,
+    memory: &mut [u16],
+    eeprom: &mut [u8],
+    pins: u8,
+) -> u32
+    ensures { λ r. ⌜ Stepped answerNumber (now (board .entry)) (now (memory .entry)) (now (eeprom .entry)) (Event.PortPins Port.PortB pins) r (now (board .exit)) (now (memory .exit)) (now (eeprom .exit)) ⌝ }
+{
+    let out = numbers::stepped(*board, memory, eeprom, Event::PortPins(Port::PortB, pins));
+    *board = out.board;
+    out.number
+}
+
+// The pins of port C take new levels.
+#[no_mangle]
+pub extern "C" fn dmm32_port_c_pins(
+    board: &mut Board,
+    memory: &mut [u16],
+    eeprom: &mut [u8],
+    pins: u8,
+) -> u32
+    ensures { λ r. ⌜ Stepped answerNumber (now (board .entry)) (now (memory .entry)) (now (eeprom .entry)) (Event.PortPins Port.PortC pins) r (now (board .exit)) (now (memory .exit)) (now (eeprom .exit)) ⌝ }
+{
+    let out = numbers::stepped(*board, memory, eeprom, Event::PortPins(Port::PortC, pins));
+    *board = out.board;
+    out.number
+}
+
+// One tick of the 10 MHz clock.
+#[no_mangle]
+pub extern "C" fn dmm32_tick(board: &mut Board, memory: &mut [u16], eeprom: &mut [u8]) -> u32
+    ensures { λ r. ⌜ Stepped answerNumber (now (board .entry)) (now (memory .entry)) (now (eeprom .entry)) Event.Tick r (now (board .exit)) (now (memory .exit)) (now (eeprom .exit)) ⌝ }
+{
+    let out = numbers::stepped(*board, memory, eeprom, Event::Tick);
+    *board = out.board;
+    out.number
+}
+
+// The calibration transfer that runs ends.
+#[no_mangle]
+pub extern "C" fn dmm32_transfer_end(
+    board: &mut Board,
+    memory: &mut [u16],
+    eeprom: &mut [u8],
+) -> u32
+    ensures { λ r. ⌜ Stepped answerNumber (now (board .entry)) (now (memory .entry)) (now (eeprom .entry)) Event.TransferEnd r (now (board .exit)) (now (memory .exit)) (now (eeprom .exit)) ⌝ }
+{
+    let out = numbers::stepped(*board, memory, eeprom, Event::TransferEnd);
+    *board = out.board;
+    out.number
+}

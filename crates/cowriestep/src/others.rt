@@ -1,0 +1,84 @@
+// Fresh boards, the collector and whole scans, by value: each passes on what the crates below answer.
+use board::Board;
+use collector::BusAnswer;
+use collector::Collector;
+use collector::Settings;
+use numbers::collecting::AccessNamed;
+use numbers::collecting::StartAnswer;
+use numbers::collecting::TakenAnswer;
+ghost use mathlib.Core.Path.{_≡_};
+ghost use lib.ListN.{length};
+ghost use Rattle.board.specs.Stores.{freshMemory, freshEeprom, storesAnswer};
+ghost use Rattle.board.specs.Working.{workingBoard};
+ghost use Rattle.collector.specs.Reply.{started, accessOf, replied};
+ghost use Rattle.collector.specs.Fit.{fit};
+ghost use Rattle.scans.specs.Scans.{wholeScans};
+ghost use Rattle.numbers.specs.Packed.{answerNumber};
+ghost use Rattle.numbers.specs.Boards.{freshOf};
+ghost use Rattle.numbers.specs.Collecting.{startAnswer, accessNamed, takenAnswer};
+
+// A fresh board's record, for jumpers 0 to 3; any other number stays in the record, which is then no working board's.
+#[no_mangle]
+pub extern "C" fn dmm32_fresh(jumpers: u8, zero_scale: bool) -> Board
+    ensures { λ r. ⌜ r ≡ freshOf jumpers «zero_scale» ⌝ }
+{
+    numbers::fresh(jumpers, zero_scale)
+}
+
+// Both memories are zeroed; wrong lengths are refused by 2, and nothing changes.
+#[no_mangle]
+pub extern "C" fn dmm32_fresh_stores(memory: &mut [u16], eeprom: &mut [u8]) -> u32
+    ensures { λ r. ⌜ r ≡ answerNumber (storesAnswer (now (memory .entry)) (now (eeprom .entry))) ⌝ }
+    ensures { λ r. ⌜ now (memory .exit) ≡ freshMemory (now (memory .entry)) (now (eeprom .entry)) ⌝ }
+    ensures { λ r. ⌜ now (eeprom .exit) ≡ freshEeprom (now (memory .entry)) (now (eeprom .entry)) ⌝ }
+{
+    numbers::fresh_stores(memory, eeprom)
+}
+
+// Whether the record and the sample memory are a working board's.
+#[no_mangle]
+pub extern "C" fn dmm32_is_working(board: Board, memory: &[u16]) -> bool
+    ensures { λ r. ⌜ r ≡ workingBoard board (now (memory .entry)) ⌝ }
+{
+    board::is_working(board, memory)
+}
+
+// A collector for these settings, or the refusal 14, 11, 12 or 13.
+#[no_mangle]
+pub extern "C" fn dmm32_collector_start(settings: Settings) -> StartAnswer
+    ensures { λ r. ⌜ r ≡ startAnswer (started settings) ⌝ }
+{
+    numbers::collecting::start(settings)
+}
+
+// Whether the record is fit.
+#[no_mangle]
+pub extern "C" fn dmm32_collector_is_fit(c: Collector) -> bool
+    ensures { λ r. ⌜ r ≡ fit c ⌝ }
+{
+    collector::is_fit(c)
+}
+
+// The access that the collector makes now, or the refusal 1 or 15.
+#[no_mangle]
+pub extern "C" fn dmm32_collector_access(c: Collector) -> AccessNamed
+    ensures { λ r. ⌜ r ≡ accessNamed (accessOf c) ⌝ }
+{
+    numbers::collecting::access(c)
+}
+
+// Takes the answer to that access.
+#[no_mangle]
+pub extern "C" fn dmm32_collector_take(c: Collector, answer: BusAnswer) -> TakenAnswer
+    ensures { λ r. ⌜ r ≡ takenAnswer (replied c (answer .number)) ⌝ }
+{
+    numbers::collecting::take(c, answer)
+}
+
+// How many of the samples, from the front, are the part that holds whole scans.
+#[no_mangle]
+pub extern "C" fn dmm32_whole_scans(samples: &[i16], low: u8, high: u8) -> usize
+    ensures { λ r. ⌜ r ≡ length (wholeScans (now (samples .entry)) low high) ⌝ }
+{
+    numbers::collecting::whole_length(samples, low, high)
+}

@@ -1,0 +1,12 @@
+-- `numbers::collecting::access` meets its contract. Assumes nothing.
+use borrow.Author.Needs.{needs}
+use Rattle.numbers.proofs.collecting.access.Statement.{statement}
+use Rattle.numbers.proofs.collecting.access.Tie as tie
+
+pub access-spec : {M : Type 1} → statement M
+access-spec =
+    tie.close
+    (tie.spec
+    (λ c κs. search needs)
+    (λ c κs. search needs)
+    (λ c. simp (c .name-access .ensures, c .before .access-of .ensures)))

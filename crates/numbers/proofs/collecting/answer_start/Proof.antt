@@ -1,0 +1,14 @@
+-- `numbers::collecting::answer_start` meets its contract. Assumes nothing.
+use borrow.Author.Needs.{needs}
+use Rattle.numbers.proofs.collecting.answer_start.Statement.{statement}
+use Rattle.numbers.proofs.collecting.answer_start.Tie as tie
+
+pub answer-start-spec : {M : Type 1} → statement M
+answer-start-spec =
+    tie.close
+    (tie.spec
+    (λ c. search needs)
+    (λ c. search needs)
+    (λ c κs. search needs)
+    (λ c. simp (c .before .s .given .1))
+    (λ c. simp (c .no-collector .ensures, c .before .before .s2 .given .1)))

@@ -1,0 +1,17 @@
+-- `numbers::collecting::name_access` meets its contract. Assumes nothing.
+use borrow.Author.Needs.{needs}
+use Rattle.numbers.proofs.collecting.name_access.Statement.{statement}
+use Rattle.numbers.proofs.collecting.name_access.Tie as tie
+
+pub name-access-spec : {M : Type 1} → statement M
+name-access-spec =
+    tie.close
+    (tie.spec
+    (λ c. search needs)
+    (λ c. search needs)
+    (λ c. search needs)
+    (λ c. search needs)
+    (λ c. simp (c .before .x .given .1))
+    (λ c. simp (c .before .x2 .given .1))
+    (λ c. simp (c .before .x3 .given .1))
+    (λ c. simp (c .before .x4 .given .1)))

@@ -1,0 +1,13 @@
+-- `numbers::collecting::whole_length` meets its contract. Assumes nothing.
+use mathlib.Core.Path.{ap}
+use lib.ListN.{length}
+use borrow.Author.Needs.{needs}
+use Rattle.numbers.proofs.collecting.whole_length.Statement.{statement}
+use Rattle.numbers.proofs.collecting.whole_length.Tie as tie
+
+pub whole-length-spec : {M : Type 1} → statement M
+whole-length-spec =
+    tie.close
+    (tie.spec
+    (λ c κs. search needs)
+    (λ c. ap length (c .whole-scans .ensures .is)))

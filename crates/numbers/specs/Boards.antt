@@ -1,0 +1,44 @@
+-- A fresh board for C hosts, whose jumpers come as a number. The specification, "What is delivered"; manual 5.4.
+use Prim.Native.Nat.{ℕ, _≤_, _<_}
+use mathlib.Core.Bool.{Bool, true, false}
+use mathlib.Core.Path.{_≡_, refl}
+use native.Mathlib.Omega.{arith}
+use Rattle.machine.specs.Fresh.{freshBoard, numberOf}
+use Rattle.machine.specs.Working.{workingMachine, machine-of}
+use Rattle.machine.specs.declared.Board.{Board}
+use Rattle.machine.specs.declared.Jumpers.{Jumpers}
+use Rattle.machine.specs.declared.Jumpers.the-variants.{A, B, C, D}
+
+-- the board with another channel configuration
+abbrev pub wired : Board → ℕ → Board
+wired b inputs = record {
+  converter = b .converter;
+  requests = b .requests;
+  fifo = b .fifo;
+  registers = b .registers;
+  outputs = b .outputs;
+  clocks = b .clocks;
+  ports = b .ports;
+  calibration = b .calibration;
+  pins = b .pins;
+  wiring = record { inputs = inputs; zeroscale = b .wiring .zeroscale };
+}
+
+-- jumpers A to D are 0 to 3; any other number stands in the record as it came
+abbrev pub freshOf : ℕ → Bool → Board
+freshOf jumpers zeroscale = wired (freshBoard A zeroscale) jumpers
+
+-- it is the fresh board of the jumpers that the number stands for
+pub fresh-of : (j : Jumpers) (zeroscale : Bool) → freshOf (numberOf j) zeroscale ≡ freshBoard j zeroscale
+fresh-of A z = refl
+fresh-of B z = refl
+fresh-of C z = refl
+fresh-of D z = refl
+
+-- a number that stands for no jumpers makes no working board, so every event is refused
+pub fresh-none : (n : ℕ) (zeroscale : Bool) → 3 < n → workingMachine (freshOf n zeroscale) ≡ false
+fresh-none n zeroscale h = by (workingMachine (freshOf n zeroscale)) refl
+  where
+    by : (t : Bool) → workingMachine (freshOf n zeroscale) ≡ t → t ≡ false
+    by true e = absurd (let w : n ≤ 3 = machine-of (freshOf n zeroscale) e .inputs in omega arith)
+    by false e = refl

@@ -1,0 +1,71 @@
+-- The collector's answers in records of numbers. The specification, "The collector"; what a kind does not have is 0.
+use Prim.Native.Nat.{ℕ}
+use lib.IntN.{ℤ, pos}
+use Rattle.collector.specs.declared.Settings.{Settings}
+use Rattle.collector.specs.declared.Collector.{Collector}
+use Rattle.collector.specs.declared.Sample.{Sample}
+use Rattle.collector.specs.declared.Started.{Started}
+use Rattle.collector.specs.declared.Started.the-variants.{Begun, NotBegun}
+use Rattle.collector.specs.declared.Access.{Access}
+use Rattle.collector.specs.declared.Access.the-variants.{WriteByte, ReadByte, ReadWord, NoAccess}
+use Rattle.collector.specs.declared.Handed.{Handed}
+use Rattle.collector.specs.declared.Handed.the-variants.{Nothing, StartEnd, OneSample, LastSample, Refused}
+use Rattle.collector.specs.declared.Taken.{Taken}
+use Rattle.numbers.specs.declared.collecting.StartAnswer.{StartAnswer}
+use Rattle.numbers.specs.declared.collecting.AccessNamed.{AccessNamed}
+use Rattle.numbers.specs.declared.collecting.TakenAnswer.{TakenAnswer}
+
+-- ---- a start
+abbrev pub noCollector : Collector
+noCollector = record {
+  settings = record { low = 0; high = 0; jumpers = 0; range = 0; clock = 0; limit = 0 };
+  phase = 0;
+  next = 0;
+  polls = 0;
+  left = 0;
+}
+
+abbrev pub startAnswer : Started → StartAnswer
+startAnswer (Begun c) = record { collector = c; refusal = 0 }
+startAnswer (NotBegun number) = record { collector = noCollector; refusal = number }
+
+-- ---- the access that is named: 0 none, 1 byte write, 2 byte read, 3 word read
+abbrev pub accessNamed : Access → AccessNamed
+accessNamed (WriteByte offset value) = record { kind = 1; offset = offset; value = value; refusal = 0 }
+accessNamed (ReadByte offset) = record { kind = 2; offset = offset; value = 0; refusal = 0 }
+accessNamed (ReadWord offset) = record { kind = 3; offset = offset; value = 0; refusal = 0 }
+accessNamed (NoAccess number) = record { kind = 0; offset = 0; value = 0; refusal = number }
+
+-- ---- what is handed over
+abbrev pub kindHanded : Handed → ℕ
+kindHanded Nothing = 0
+kindHanded StartEnd = 1
+kindHanded (OneSample s) = 2
+kindHanded (LastSample s) = 3
+kindHanded (Refused number) = 4
+
+abbrev pub refusalHanded : Handed → ℕ
+refusalHanded Nothing = 0
+refusalHanded StartEnd = 0
+refusalHanded (OneSample s) = 0
+refusalHanded (LastSample s) = 0
+refusalHanded (Refused number) = number
+
+abbrev pub noSample : Sample
+noSample = record { channel = 0; code = pos 0 }
+
+abbrev pub sampleHanded : Handed → Sample
+sampleHanded Nothing = noSample
+sampleHanded StartEnd = noSample
+sampleHanded (OneSample s) = s
+sampleHanded (LastSample s) = s
+sampleHanded (Refused number) = noSample
+
+abbrev pub takenAnswer : Taken → TakenAnswer
+takenAnswer t = record {
+  collector = t .collector;
+  polls = t .polls;
+  handed = kindHanded (t .handed);
+  refusal = refusalHanded (t .handed);
+  sample = sampleHanded (t .handed);
+}

@@ -1,0 +1,4 @@
+pub mod Packed
+pub mod Boards
+pub mod Collecting
+pub mod Decoded

@@ -1,0 +1,66 @@
+// The board's and the collector's answers as plain numbers and records of numbers, for hosts in other languages (include/cowriestep.h): by value,
+// so that the exported functions only pass them on.
+ghost use mathlib.Core.Path.{_≡_};
+ghost use Rattle.board.specs.Step.{stepOf, memoryAfter, eepromAfter};
+ghost use Rattle.board.specs.Stores.{freshMemory, freshEeprom, storesAnswer};
+ghost use Rattle.numbers.specs.Packed.{answerNumber, numberedOf};
+ghost use Rattle.numbers.specs.Boards.{freshOf};
+use board::Answer;
+use board::Board;
+use board::Event;
+use board::Jumpers;
+
+pub mod collecting; // the collector, and whole scans
+
+// The record after an event, and its answer as one number.
+#[repr(C)]
+pub struct Numbered {
+    pub board: Board,
+    pub number: u32,
+}
+
+// An answer as one number: the kind in bits 31-29, the refusal in bits 28-24, the byte or word in bits 15-0.
+pub fn number_of(answer: Answer) -> u32
+    ensures { λ r. ⌜ r ≡ answerNumber answer ⌝ }
+{
+    match answer {
+        Answer::Done => 0,
+        Answer::Byte(value) => 0x20000000 + value as u32,
+        Answer::Word(value) => 0x40000000 + value as u32,
+        Answer::Refused(number) => 0x60000000 + (number % 32) as u32 * 0x1000000,
+    }
+}
+
+// One event, by value, with its answer as a number.
+pub fn stepped(board: Board, memory: &mut [u16], eeprom: &mut [u8], event: Event) -> Numbered
+    ensures { λ r. ⌜ r ≡ numberedOf (stepOf board (now (memory .entry)) (now (eeprom .entry)) event) ⌝ }
+    ensures { λ r. ⌜ now (memory .exit) ≡ memoryAfter board (now (memory .entry)) (now (eeprom .entry)) event ⌝ }
+    ensures { λ r. ⌜ now (eeprom .exit) ≡ eepromAfter board (now (memory .entry)) (now (eeprom .entry)) event ⌝ }
+{
+    let out = board::step(board, memory, eeprom, event);
+    let after = out.board;
+    let answer = out.answer;
+    Numbered {
+        board: after,
+        number: number_of(answer),
+    }
+}
+
+// A fresh board's record, for jumpers 0 to 3; any other number stays in the record, which is then no working board's.
+pub fn fresh(jumpers: u8, zero_scale: bool) -> Board
+    ensures { λ r. ⌜ r ≡ freshOf jumpers «zero_scale» ⌝ }
+{
+    let mut b = board::fresh(Jumpers::A, zero_scale);
+    b.wiring.inputs = jumpers;
+    b
+}
+
+// Both memories are zeroed; wrong lengths are refused by 2, and nothing changes.
+pub fn fresh_stores(memory: &mut [u16], eeprom: &mut [u8]) -> u32
+    ensures { λ r. ⌜ r ≡ answerNumber (storesAnswer (now (memory .entry)) (now (eeprom .entry))) ⌝ }
+    ensures { λ r. ⌜ now (memory .exit) ≡ freshMemory (now (memory .entry)) (now (eeprom .entry)) ⌝ }
+    ensures { λ r. ⌜ now (eeprom .exit) ≡ freshEeprom (now (memory .entry)) (now (eeprom .entry)) ⌝ }
+{
+    let answer = board::fresh_stores(memory, eeprom);
+    number_of(answer)
+}
