@@ -1,5 +1,5 @@
 /*
- * A C host of the static libraries: compares every A/D code at every range code with exact fractions, and output requests with a search for the
+ * A C host of the static library: compares every A/D code at every range code with exact fractions, and output requests with a search for the
  * nearest code. Prints what it compared; the exit status is 1 where anything differs.
  */
 #include <inttypes.h>

@@ -1,4 +1,4 @@
-// A Rust host of the static libraries: compares every A/D code at every range code with exact fractions, and output requests with the table of the
+// A Rust host of the static library: compares every A/D code at every range code with exact fractions, and output requests with the table of the
 // voltages at which one code gives way to the next. Prints what it compared; the exit status is 1 where anything differs.
 use std::process::ExitCode;
 

@@ -5,10 +5,8 @@ Counts are short, ranges small, and page, key and ticks are chosen so that deep
 states come up: scans, overflows, cascades, transfers, busy outputs.  A few lines
 end with a spoil of the list below; after it only single events follow.
 """
-import random
-import sys
-
 import timer_random
+from random_lines import print_lines
 
 SPOILS = tuple(range(0x00, 0x24))
 CHANNELS = (0, 1, 2, 3, 3, 4, 5, 30, 31)
@@ -195,11 +193,5 @@ def timer_start(dice):
     return "w0F%02X w0C%02X" % (dice.choice((0x10, 0x14)), dice.randrange(2, 5))
 
 
-def main(seed, lines):
-    dice = random.Random(seed)
-    for number in range(1, lines + 1):
-        print("random %d %d: %s" % (seed, number, Line(dice).text()))
-
-
 if __name__ == "__main__":
-    main(int(sys.argv[1]), int(sys.argv[2]))
+    print_lines(lambda dice: Line(dice).text())

@@ -4,8 +4,7 @@
 Most settings are taken and most answers lead on, so that starts end, samples
 come and drains run to their gap; all operations occur, refused ones too.
 """
-import random
-import sys
+from random_lines import print_lines
 
 STATUS = (0x00, 0x00, 0x00, 0x40, 0x80, 0x88, 0x60, 0x70, 0x20, 0x10, 0xC0, 0xA0, 0x100, 0x180)
 
@@ -59,11 +58,5 @@ def line(dice):
     return " ".join(start[:dice.choice((0, 2, 3, 3, 3, 3, 3))] + rest + ["q h f"])
 
 
-def main(seed, lines):
-    dice = random.Random(seed)
-    for number in range(1, lines + 1):
-        print("random %d %d: %s" % (seed, number, line(dice)))
-
-
 if __name__ == "__main__":
-    main(int(sys.argv[1]), int(sys.argv[2]))
+    print_lines(line)

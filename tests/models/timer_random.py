@@ -4,8 +4,7 @@
 Counts are short, so that terminal counts, reloads and falling OUTs happen; all
 operations occur, refused ones too.
 """
-import random
-import sys
+from random_lines import print_lines
 
 
 def byte(dice):
@@ -63,11 +62,5 @@ def line(dice):
     return " ".join(start + rest + ["o f r0 r1 r2"])
 
 
-def main(seed, lines):
-    dice = random.Random(seed)
-    for number in range(1, lines + 1):
-        print("random %d %d: %s" % (seed, number, line(dice)))
-
-
 if __name__ == "__main__":
-    main(int(sys.argv[1]), int(sys.argv[2]))
+    print_lines(line)

@@ -1,0 +1,27 @@
+/* The functions of bench/baseline.c: those of include/cowriestep.h for fresh boards and events, but for the prefix of their names. */
+#ifndef BASELINE_H
+#define BASELINE_H
+
+#include "cowriestep.h"
+
+#define BOARD_EVENT(name) name(struct dmm32_board *board, uint16_t *memory, size_t memory_length, uint8_t *eeprom, size_t eeprom_length
+#define DECLARE_BASELINE(prefix)                                                                              \
+    struct dmm32_board prefix##fresh(uint8_t jumpers, bool zero_scale);                                       \
+    uint32_t prefix##fresh_stores(uint16_t *memory, size_t memory_length, uint8_t *eeprom, size_t eeprom_length); \
+    bool prefix##is_working(struct dmm32_board board, const uint16_t *memory, size_t memory_length);          \
+    uint32_t BOARD_EVENT(prefix##write_byte), uint8_t offset, uint8_t value);                                 \
+    uint32_t BOARD_EVENT(prefix##read_byte), uint8_t offset);                                                 \
+    uint32_t BOARD_EVENT(prefix##read_word), uint8_t offset);                                                 \
+    uint32_t BOARD_EVENT(prefix##conversion_end), int16_t code);                                              \
+    uint32_t BOARD_EVENT(prefix##din), uint8_t lines);                                                        \
+    uint32_t BOARD_EVENT(prefix##latch), bool high);                                                          \
+    uint32_t BOARD_EVENT(prefix##port_a_pins), uint8_t pins);                                                 \
+    uint32_t BOARD_EVENT(prefix##port_b_pins), uint8_t pins);                                                 \
+    uint32_t BOARD_EVENT(prefix##port_c_pins), uint8_t pins);                                                 \
+    uint32_t BOARD_EVENT(prefix##tick));                                                                      \
+    uint32_t BOARD_EVENT(prefix##transfer_end))
+
+DECLARE_BASELINE(baseline_o2_);
+DECLARE_BASELINE(baseline_o3_);
+
+#endif

@@ -1,0 +1,189 @@
+/*
+ * A small hypervisor: a fresh board, a guest that programs counters 1 and 2 as the clock of conversions, and the collector that empties the sample
+ * memory. What is expected is worked out by hand from the specification; then every refusal is asked for once.
+ */
+#include "record.h"
+
+static uint16_t memory[COWRIESTEP_MEMORY_LENGTH];
+static uint8_t eeprom[COWRIESTEP_EEPROM_LENGTH];
+static struct dmm32_board board;
+static struct dmm32_collector collector;
+
+#define LENT &board, memory, COWRIESTEP_MEMORY_LENGTH, eeprom, COWRIESTEP_EEPROM_LENGTH
+#define REFUSED(n) (UINT32_C(0x60000000) + (n) * UINT32_C(0x1000000))
+
+static void answers(const char *what, uint32_t answer, uint32_t want) { expect("guest.c", what, answer, want); }
+
+/* ---- the guest */
+
+/* Mode 2: OUT goes low on every count-th clock. Counter 1, count 3, is clocked by each tick; counter 2, count 2, by each falling OUT1. So OUT2, which
+   starts a conversion, falls on ticks 6, 12, 18, .. after these writes. */
+static void program_clock(void) {
+    static const uint8_t bytes[][2] = { { 8, 0x00 }, { 15, 0x74 }, { 13, 3 }, { 13, 0 }, { 15, 0xB4 }, { 14, 2 }, { 14, 0 } };
+    for (unsigned i = 0; i < sizeof bytes / sizeof *bytes; i++) answers("a write of the guest", dmm32_write_byte(LENT, bytes[i][0], bytes[i][1]), 0);
+}
+
+/* ---- the hypervisor: the access that the collector names, its answer, and what is handed over */
+static struct dmm32_taken turn(void) {
+    struct dmm32_access x = dmm32_collector_access(collector);
+    uint32_t answer = 0;
+    if (x.kind == COWRIESTEP_ACCESS_WRITE_BYTE) answer = dmm32_write_byte(LENT, x.offset, x.value);
+    if (x.kind == COWRIESTEP_ACCESS_READ_BYTE) answer = dmm32_read_byte(LENT, x.offset);
+    if (x.kind == COWRIESTEP_ACCESS_READ_WORD) answer = dmm32_read_word(LENT, x.offset);
+    expect("guest.c", "a refused access", COWRIESTEP_REFUSAL(answer), 0);
+    struct dmm32_taken t = dmm32_collector_take(collector, (struct dmm32_bus_answer){ COWRIESTEP_NUMBER(answer) });
+    collector = t.collector;
+    return t;
+}
+
+static void start(void) {
+    static const uint8_t wanted[7][3] = { { COWRIESTEP_ACCESS_WRITE_BYTE, 9, 0 }, { COWRIESTEP_ACCESS_READ_BYTE, 8, 0 }, { COWRIESTEP_ACCESS_WRITE_BYTE, 11, 8 },
+        { COWRIESTEP_ACCESS_WRITE_BYTE, 7, 2 }, { COWRIESTEP_ACCESS_WRITE_BYTE, 2, 3 }, { COWRIESTEP_ACCESS_WRITE_BYTE, 3, 5 }, { COWRIESTEP_ACCESS_WRITE_BYTE, 9, 3 } };
+    for (unsigned i = 0; i < 7; i++) {
+        struct dmm32_access x = dmm32_collector_access(collector);
+        expect("guest.c", "the kind of access", x.kind, wanted[i][0]);
+        expect("guest.c", "the access's offset", x.offset, wanted[i][1]);
+        expect("guest.c", "the access's value", x.value, wanted[i][2]);
+        expect("guest.c", "handed over by a start", turn().handed, i < 6 ? COWRIESTEP_HANDED_NOTHING : COWRIESTEP_HANDED_START_END);
+    }
+    expect("guest.c", "polls", collector.polls, 1);
+}
+
+/* ticks until the next conversion begins, and its end: the channel, and after how many ticks */
+static unsigned convert(int16_t code, uint8_t channel) {
+    unsigned ticks = 0;
+    while (!board.converter.converting && ticks < 100) {
+        answers("a tick", dmm32_tick(LENT), 0);
+        ticks++;
+    }
+    expect("guest.c", "the channel in conversion", board.converter.channel, channel);
+    answers("an end", dmm32_conversion_end(LENT, code), 0);
+    return ticks;
+}
+
+static void sample(uint8_t handed, uint8_t channel, int16_t code) {
+    struct dmm32_taken t = turn();
+    expect("guest.c", "what is handed over", t.handed, handed);
+    expect("guest.c", "the sample's channel", t.sample.channel, channel);
+    expect("guest.c", "the sample's code", t.sample.code, code);
+    expect("guest.c", "the polls reported", t.polls, 1);
+}
+
+static void look(void) { expect("guest.c", "handed over by a look", turn().handed, COWRIESTEP_HANDED_NOTHING); }
+
+/* Channels 3 to 5, five conversions: 3, 4, 5, 3, 4, and 5 is selected. */
+static void five(void) {
+    static const int16_t codes[5] = { 100, -200, 300, -400, 32767 };
+    static const uint8_t channels[5] = { 3, 4, 5, 3, 4 };
+    for (unsigned i = 0; i < 5; i++) expect("guest.c", "ticks to a conversion", convert(codes[i], channels[i]), 6);
+    answers("Base + 8", dmm32_read_byte(LENT, 8), 0x20000065);
+    answers("Base + 7", dmm32_read_byte(LENT, 7), 0x20000000);
+    for (unsigned i = 0; i < 5; i++) {
+        look();
+        sample(COWRIESTEP_HANDED_SAMPLE, channels[i], codes[i]);
+    }
+    answers("Base + 7", dmm32_read_byte(LENT, 7), 0x20000080);
+    look();
+}
+
+/* 513 conversions from channel 5 on: the last is lost, 512 are drained, and a gap is marked with the last of these. */
+static void overflow(void) {
+    for (unsigned i = 0; i < 513; i++) convert((int16_t)(i * 127 - 32768), (uint8_t)(3 + (i + 2) % 3));
+    answers("Base + 7", dmm32_read_byte(LENT, 7), 0x20000070);
+    look();
+    for (unsigned i = 0; i < 512; i++)
+        sample(i < 511 ? COWRIESTEP_HANDED_SAMPLE : COWRIESTEP_HANDED_LAST_SAMPLE, (uint8_t)(3 + (i + 2) % 3), (int16_t)(i * 127 - 32768));
+    expect("guest.c", "held after the drain", board.fifo.held, 0);
+    expect("guest.c", "polls of the next start", collector.polls, 0);
+    start();
+    convert(-1, 3);
+    look();
+    sample(COWRIESTEP_HANDED_SAMPLE, 3, -1);
+}
+
+/* ---- the refusals 1 to 10 */
+static void board_refusals(void) {
+    answers("2", dmm32_tick(&board, memory, 511, eeprom, 128), REFUSED(2));
+    answers("2", dmm32_tick(&board, memory, 512, eeprom, 0), REFUSED(2));
+    answers("2 of fresh stores", dmm32_fresh_stores(memory, 512, eeprom, 127), REFUSED(2));
+    struct dmm32_board kept = board;
+    board.fifo.held = 513;
+    answers("1", dmm32_din(LENT, 16), REFUSED(1));
+    expect("guest.c", "working", dmm32_is_working(board, memory, 512), 0);
+    board = dmm32_fresh(4, false);
+    answers("1 with jumpers 4", dmm32_tick(LENT), REFUSED(1));
+    board = kept;
+    expect("guest.c", "working", dmm32_is_working(board, memory, 512), 1);
+    answers("3", dmm32_write_byte(LENT, 16, 0), REFUSED(3));
+    answers("3", dmm32_read_byte(LENT, 255), REFUSED(3));
+    answers("3", dmm32_read_word(LENT, 1), REFUSED(3));
+    answers("4", dmm32_conversion_end(LENT, 0), REFUSED(4));
+    answers("5", dmm32_din(LENT, 16), REFUSED(5));
+    answers("10", dmm32_transfer_end(LENT), REFUSED(10));
+    answers("a load", dmm32_write_byte(LENT, 5, 0), 0);
+    answers("6", dmm32_write_byte(LENT, 4, 0), REFUSED(6));
+    answers("page 2", dmm32_write_byte(LENT, 8, 2), 0);
+    answers("7", dmm32_read_byte(LENT, 15), REFUSED(7));
+    answers("page 3", dmm32_write_byte(LENT, 8, 3), 0);
+    answers("the revision", dmm32_read_byte(LENT, 15), 0x20000000 + 34);
+    answers("8", dmm32_write_byte(LENT, 14, 0x80), REFUSED(8));
+    answers("9", dmm32_write_byte(LENT, 14, 0xA8), REFUSED(9));
+    answers("an empty memory", dmm32_read_word(LENT, 0), 0x4000FFFF);
+}
+
+/* ---- the refusals 11 to 17 and 1 of the collector */
+static void refused_start(struct dmm32_settings s, uint8_t number) {
+    struct dmm32_start r = dmm32_collector_start(s);
+    expect("guest.c", "the refusal of a start", r.refusal, number);
+    expect("guest.c", "fit", dmm32_collector_is_fit(r.collector), 0);
+    expect("guest.c", "the access of no collector", dmm32_collector_access(r.collector).refusal, COWRIESTEP_REFUSED_RECORD);
+}
+
+static void refused_take(uint8_t phase, uint16_t answer, uint8_t number, uint8_t after) {
+    collector.phase = phase;
+    struct dmm32_taken t = dmm32_collector_take(collector, (struct dmm32_bus_answer){ answer });
+    expect("guest.c", "handed", t.handed, COWRIESTEP_HANDED_REFUSED);
+    expect("guest.c", "the refusal of an answer", t.refusal, number);
+    expect("guest.c", "the phase after it", t.collector.phase, after);
+}
+
+static void collector_refusals(void) {
+    refused_start((struct dmm32_settings){ 0, 7, 0, 0, 0, 0 }, 14);
+    refused_start((struct dmm32_settings){ 0, 7, 0, 0, 0, 1001 }, 14);
+    refused_start((struct dmm32_settings){ 5, 4, 0, 0, 0, 1 }, 11);
+    refused_start((struct dmm32_settings){ 15, 24, COWRIESTEP_JUMPERS_C, 0, 0, 1 }, 12);
+    refused_start((struct dmm32_settings){ 0, 7, 0, 4, 0, 1 }, 13);
+    collector = dmm32_collector_start((struct dmm32_settings){ 8, 15, COWRIESTEP_JUMPERS_C, 0, 0, 1 }).collector;
+    refused_take(11, 0, 1, 11);
+    refused_take(1, 256, 17, 1);
+    refused_take(7, 0xC0, 16, 7);
+    refused_take(7, 0x10, 16, 7);
+    refused_take(1, 0x80, 15, 10);
+    refused_take(10, 0, 15, 10);
+    expect("guest.c", "the access of a stuck collector", dmm32_collector_access(collector).refusal, 15);
+}
+
+static void scans(void) {
+    static const int16_t samples[10];
+    expect("guest.c", "whole scans of 3", (int64_t)dmm32_whole_scans(samples, 10, 3, 5), 9);
+    expect("guest.c", "whole scans of 32", (int64_t)dmm32_whole_scans(samples, 10, 0, 31), 0);
+    expect("guest.c", "whole scans of a bad range", (int64_t)dmm32_whole_scans(samples, 10, 5, 3), 0);
+    expect("guest.c", "whole scans of a bad range", (int64_t)dmm32_whole_scans(samples, 10, 0, 32), 0);
+}
+
+int main(void) {
+    board = dmm32_fresh(COWRIESTEP_JUMPERS_A, false);
+    answers("fresh stores", dmm32_fresh_stores(memory, COWRIESTEP_MEMORY_LENGTH, eeprom, COWRIESTEP_EEPROM_LENGTH), 0);
+    program_clock();
+    struct dmm32_start s = dmm32_collector_start((struct dmm32_settings){ .low = 3, .high = 5, .jumpers = COWRIESTEP_JUMPERS_A, .range = 8, .clock = 1, .limit = 10 });
+    expect("guest.c", "the refusal of a start", s.refusal, 0);
+    collector = s.collector;
+    start();
+    five();
+    overflow();
+    board_refusals();
+    collector_refusals();
+    scans();
+    printf("guest.c: %ld answers compared, %ld differ\n", compared, differ);
+    return differ != 0;
+}

@@ -1,0 +1,177 @@
+//! Random steps: stretches of one kind of use after another, with misuse and damage in between.
+
+use crate::event::Event;
+use crate::fields::{field_number, is_ranged, FIELD_COUNT};
+use crate::random::Random;
+use crate::step::{Change, Lent, Start, Step, EEPROM_ROOM, MEMORY_ROOM};
+use crate::uses::{Use, User};
+use crate::working::{is_working, EEPROM_LENGTH, MEMORY_LENGTH};
+
+/// Numbers at and around the limits of the fields.
+const EDGES: [u16; 36] = [
+    0, 1, 2, 3, 4, 5, 7, 8, 15, 16, 18, 20, 31, 32, 44, 48, 52, 60, 63, 64, 99, 100, 101, 127, 128,
+    155, 255, 256, 511, 512, 513, 999, 1000, 4095, 4096, 65535,
+];
+
+/// How often a change is drawn again until it does what is wanted.
+const DRAWS: u32 = 50;
+
+pub struct Generator {
+    random: Random,
+    kind: Use,
+    left: u32,
+}
+
+impl Generator {
+    pub fn new(seed: u64) -> Generator {
+        Generator { random: Random::new(seed), kind: Use::Chaos, left: 0 }
+    }
+
+    /// The jumpers that a run starts with.
+    pub fn start(&mut self) -> Start {
+        Start { jumpers: self.random.below(4) as u8, zero_scale: self.random.once_in(2) }
+    }
+
+    /// The next step for a board as it stands.
+    pub fn next(&mut self, lent: &Lent) -> Step {
+        if self.left == 0 {
+            self.kind = self.random.pick(&Use::ALL);
+            self.left = 1 + self.random.below(self.kind.longest());
+        }
+        self.left -= 1;
+        let event = User { random: &mut self.random, board: &lent.board }.event(self.kind);
+        let mut step = Step::plain(event);
+        match self.random.below(240) {
+            0 => self.lend_wrong_lengths(&mut step),
+            1..=4 => self.damage(&mut step, lent),
+            5 | 6 => self.arrange(&mut step, lent),
+            7 => self.rearrange_memories(&mut step, lent),
+            8 | 9 => step.event = self.misuse(lent),
+            _ => {}
+        }
+        step
+    }
+
+    /// An event that a board may refuse.
+    fn misuse(&mut self, lent: &Lent) -> Event {
+        User { random: &mut self.random, board: &lent.board }.misuse()
+    }
+
+    fn lend_wrong_lengths(&mut self, step: &mut Step) {
+        let memory_lengths = [0, 1, 256, 511, 513, MEMORY_ROOM];
+        let eeprom_lengths = [0, 1, 127, 129, EEPROM_ROOM];
+        let which = self.random.below(3);
+        if which != 0 {
+            step.memory_length = self.random.pick(&memory_lengths);
+        }
+        if which != 1 {
+            step.eeprom_length = self.random.pick(&eeprom_lengths);
+        }
+        if self.random.once_in(4) {
+            step.changes = vec![self.any_change()];
+        }
+    }
+
+    fn any_field(&mut self) -> usize {
+        self.random.below(FIELD_COUNT as u32) as usize
+    }
+
+    fn any_value(&mut self) -> u16 {
+        if self.random.once_in(3) {
+            self.random.word()
+        } else {
+            self.random.pick(&EDGES)
+        }
+    }
+
+    fn any_change(&mut self) -> Change {
+        Change::Field { field: self.any_field(), value: self.any_value() }
+    }
+
+    /// A change after which the board does not work: a field out of its range, or a free place not 0.
+    fn damage(&mut self, step: &mut Step, lent: &Lent) {
+        let in_memory = self.random.once_in(8);
+        let field = self.any_field();
+        for _ in 0..DRAWS {
+            let change = if in_memory {
+                let place = self.random.below(MEMORY_LENGTH as u32) as usize;
+                Change::Place { place, value: 1 << self.random.below(16) }
+            } else if is_ranged(field) {
+                Change::Field { field, value: self.any_value() }
+            } else {
+                return;
+            };
+            if !works_after(lent, &[change]) {
+                step.changes = vec![change];
+                return;
+            }
+        }
+    }
+
+    /// Changes after which the board works still, in a state that events may not lead to.
+    fn arrange(&mut self, step: &mut Step, lent: &Lent) {
+        match self.random.below(8) {
+            0 => self.unprogram(step),
+            1 => self.wind_dividers(step),
+            _ => self.arrange_anything(step, lent),
+        }
+    }
+
+    /// A counter as before its first control word.
+    fn unprogram(&mut self, step: &mut Step) {
+        let counter = format!("clocks.timer.counter{}", self.random.below(3));
+        for (name, value) in [("control", 0), ("count.out", 1)] {
+            let field = field_number(&format!("{counter}.{name}"));
+            step.changes.push(Change::Field { field, value });
+        }
+    }
+
+    /// Dividers just before a pulse.
+    fn wind_dividers(&mut self, step: &mut Step) {
+        for (name, period) in [("clocks.hundred", 100), ("clocks.thousand", 1000)] {
+            let value = period - 1 - self.random.below(4) as u16;
+            step.changes.push(Change::Field { field: field_number(name), value });
+        }
+    }
+
+    fn arrange_anything(&mut self, step: &mut Step, lent: &Lent) {
+        for _ in 0..DRAWS {
+            let change = self.any_change();
+            step.changes.push(change);
+            if !works_after(lent, &step.changes) {
+                step.changes.pop();
+            } else if self.random.once_in(2) {
+                return;
+            }
+        }
+    }
+
+    /// Other contents of the sample memory or the EEPROM.
+    fn rearrange_memories(&mut self, step: &mut Step, lent: &Lent) {
+        let change = match self.random.below(6) {
+            0 | 1 => Change::EepromByte {
+                address: self.random.pick(&[0, 1, 7, 8, 100, EEPROM_LENGTH - 1]),
+                value: self.random.byte(),
+            },
+            2 if lent.board.fifo.held > 0 => Change::Place {
+                place: self.random.below(u32::from(lent.board.fifo.held)) as usize,
+                value: self.random.word(),
+            },
+            3 => Change::Held { held: self.random.below(513) as u16, first: self.random.word() },
+            _ => Change::Held {
+                held: self.random.pick(&[0, 1, 2, 254, 255, 256, 257, 509, 510, 511, 512]),
+                first: self.random.word(),
+            },
+        };
+        step.changes = vec![change];
+    }
+}
+
+/// Whether a board works after the host's changes.
+fn works_after(lent: &Lent, changes: &[Change]) -> bool {
+    let mut changed = lent.clone();
+    for change in changes {
+        change.apply(&mut changed);
+    }
+    is_working(&changed.board, &changed.memory[..MEMORY_LENGTH])
+}

@@ -1,0 +1,79 @@
+//! Conversions, scans and the sample memory.
+
+use crate::record::Board;
+use crate::working::MEMORY_LENGTH;
+
+impl Board {
+    /// A trigger: it is lost while a conversion or scan runs.
+    pub fn trigger(&mut self) {
+        if !self.converter.converting {
+            self.start_conversion();
+        }
+    }
+
+    /// A conversion of the selected channel begins, and the selection moves.
+    fn start_conversion(&mut self) {
+        let converter = &mut self.converter;
+        converter.converting = true;
+        converter.channel = converter.selected;
+        converter.selected = if converter.selected == converter.high {
+            converter.low
+        } else {
+            (converter.selected + 1) % 32
+        };
+    }
+
+    /// The conversion in progress ends with a code.
+    pub fn conversion_end(&mut self, memory: &mut [u16], code: i16) {
+        self.keep_or_lose(memory, code as u16);
+        let converter = &self.converter;
+        if converter.scanen && converter.channel != converter.high {
+            self.start_conversion();
+        } else {
+            self.converter.converting = false;
+            self.request_after_end();
+        }
+    }
+
+    fn keep_or_lose(&mut self, memory: &mut [u16], sample: u16) {
+        let held = usize::from(self.fifo.held);
+        if held < MEMORY_LENGTH {
+            memory[held] = sample;
+            self.fifo.held += 1;
+        } else {
+            self.fifo.ovf = true;
+        }
+    }
+
+    fn request_after_end(&mut self) {
+        let threshold = 2 * u16::from(self.requests.threshold);
+        let due = !self.requests.fifoen || self.fifo.held >= threshold;
+        self.requests.flags.adint |= self.requests.adinte && due;
+    }
+
+    /// The oldest sample; FFFF where none is held.
+    pub fn oldest(&self, memory: &[u16]) -> u16 {
+        if self.fifo.held == 0 {
+            0xFFFF
+        } else {
+            memory[0]
+        }
+    }
+
+    /// The oldest sample leaves, the rest moves down, OVF clears.
+    pub fn take_oldest(&mut self, memory: &mut [u16]) {
+        if self.fifo.held == 0 {
+            return;
+        }
+        memory.copy_within(1.., 0);
+        memory[MEMORY_LENGTH - 1] = 0;
+        self.fifo.held -= 1;
+        self.fifo.ovf = false;
+    }
+
+    pub fn empty_memory(&mut self, memory: &mut [u16]) {
+        memory.fill(0);
+        self.fifo.held = 0;
+        self.fifo.ovf = false;
+    }
+}

@@ -1,0 +1,122 @@
+//! What the host lends to a call, and one step of a run: changes to what is lent, lengths, an event.
+
+use crate::event::Event;
+use crate::fields::{field_name, set_field};
+use crate::record::{fresh, Board};
+use crate::working::{EEPROM_LENGTH, MEMORY_LENGTH};
+use std::fmt;
+
+/// Room for a sample memory and an EEPROM, more than a board has, so that longer lengths can be lent.
+pub const MEMORY_ROOM: usize = 1024;
+pub const EEPROM_ROOM: usize = 256;
+/// What stands in the room beyond the right lengths.
+const MEMORY_BEYOND: u16 = 0xB0B0;
+const EEPROM_BEYOND: u8 = 0xB0;
+
+/// The record and both memories of one board.
+#[derive(Clone, PartialEq, Eq)]
+pub struct Lent {
+    pub board: Board,
+    pub memory: [u16; MEMORY_ROOM],
+    pub eeprom: [u8; EEPROM_ROOM],
+}
+
+impl Lent {
+    /// A fresh board.
+    pub fn fresh(start: Start) -> Lent {
+        let mut memory = [MEMORY_BEYOND; MEMORY_ROOM];
+        let mut eeprom = [EEPROM_BEYOND; EEPROM_ROOM];
+        memory[..MEMORY_LENGTH].fill(0);
+        eeprom[..EEPROM_LENGTH].fill(0);
+        Lent { board: fresh(start.jumpers, start.zero_scale), memory, eeprom }
+    }
+}
+
+/// The jumpers of the fresh board that a run starts with.
+#[derive(Clone, Copy, Debug)]
+pub struct Start {
+    pub jumpers: u8,
+    pub zero_scale: bool,
+}
+
+/// A change that the host makes to what it lends.
+#[derive(Clone, Copy, Debug, PartialEq, Eq)]
+pub enum Change {
+    /// A field of the record takes a value.
+    Field { field: usize, value: u16 },
+    /// A place of the sample memory takes a value.
+    Place { place: usize, value: u16 },
+    /// A byte of the EEPROM takes a value.
+    EepromByte { address: usize, value: u8 },
+    /// The sample memory holds so many samples, without OVF.
+    Held { held: u16, first: u16 },
+}
+
+impl Change {
+    pub fn apply(&self, lent: &mut Lent) {
+        match *self {
+            Change::Field { field, value } => set_field(&mut lent.board, field, value),
+            Change::Place { place, value } => lent.memory[place] = value,
+            Change::EepromByte { address, value } => lent.eeprom[address] = value,
+            Change::Held { held, first } => {
+                lent.board.fifo.held = held;
+                lent.board.fifo.ovf = false;
+                for place in 0..MEMORY_LENGTH as u16 {
+                    let sample = first.wrapping_add(place.wrapping_mul(257));
+                    let held_here = place < held;
+                    lent.memory[usize::from(place)] = if held_here { sample } else { 0 };
+                }
+            }
+        }
+    }
+}
+
+impl fmt::Display for Change {
+    fn fmt(&self, out: &mut fmt::Formatter) -> fmt::Result {
+        match *self {
+            Change::Field { field, value } => write!(out, "{} = {value}", field_name(field)),
+            Change::Place { place, value } => write!(out, "memory[{place}] = {value}"),
+            Change::EepromByte { address, value } => write!(out, "eeprom[{address}] = {value}"),
+            Change::Held { held, first } => {
+                write!(out, "memory holds {held}: {first}, and each next 257 more")
+            }
+        }
+    }
+}
+
+/// One step of a run.
+#[derive(Clone, Debug)]
+pub struct Step {
+    pub changes: Vec<Change>,
+    pub memory_length: usize,
+    pub eeprom_length: usize,
+    pub event: Event,
+}
+
+impl Step {
+    /// An event on a board that is lent as it is.
+    pub fn plain(event: Event) -> Step {
+        Step {
+            changes: Vec::new(),
+            memory_length: MEMORY_LENGTH,
+            eeprom_length: EEPROM_LENGTH,
+            event,
+        }
+    }
+
+    pub fn has_right_lengths(&self) -> bool {
+        self.memory_length == MEMORY_LENGTH && self.eeprom_length == EEPROM_LENGTH
+    }
+}
+
+impl fmt::Display for Step {
+    fn fmt(&self, out: &mut fmt::Formatter) -> fmt::Result {
+        for change in &self.changes {
+            write!(out, "[{change}] ")?;
+        }
+        if !self.has_right_lengths() {
+            write!(out, "[lengths {} and {}] ", self.memory_length, self.eeprom_length)?;
+        }
+        write!(out, "{}", self.event)
+    }
+}

@@ -1,0 +1,73 @@
+//! What a working board is: every number in its range, free places of the sample memory 0.
+
+use crate::counter::Mode;
+use crate::record::*;
+
+/// Numbers in a sample memory.
+pub const MEMORY_LENGTH: usize = 512;
+/// Bytes in an EEPROM.
+pub const EEPROM_LENGTH: usize = 128;
+/// Ticks of DACBUSY after a write to Base + 5.
+pub const DACBUSY_TICKS: u8 = 100;
+
+/// Whether record and sample memory are a working board's.
+pub fn is_working(board: &Board, memory: &[u16]) -> bool {
+    memory.len() == MEMORY_LENGTH
+        && fifo_works(&board.fifo, memory)
+        && converter_works(&board.converter)
+        && registers_work(&board.registers)
+        && outputs_work(&board.outputs)
+        && clocks_work(&board.clocks)
+        && control_byte_is_taken(board.ports.control)
+        && board.calibration.address < 128
+        && board.calibration.transfer <= 4
+        && board.pins.din <= 15
+        && board.wiring.inputs <= 3
+}
+
+/// Whether the 82C55 takes a control byte: bit 7 set, mode bits 6, 5 and 2 clear.
+pub fn control_byte_is_taken(control: u8) -> bool {
+    control & 0b1110_0100 == 0b1000_0000
+}
+
+fn fifo_works(fifo: &Fifo, memory: &[u16]) -> bool {
+    let held = usize::from(fifo.held);
+    held <= MEMORY_LENGTH
+        && (!fifo.ovf || held == MEMORY_LENGTH)
+        && memory[held..].iter().all(|&place| place == 0)
+}
+
+fn converter_works(converter: &Converter) -> bool {
+    converter.low < 32 && converter.high < 32 && converter.selected < 32 && converter.channel < 32
+}
+
+fn registers_work(registers: &Registers) -> bool {
+    registers.page < 4 && registers.dout < 8 && registers.range < 16
+}
+
+fn outputs_work(outputs: &Outputs) -> bool {
+    let codes = &outputs.codes;
+    let load = &outputs.load;
+    [codes.out0, codes.out1, codes.out2, codes.out3, load.code].iter().all(|&code| code < 4096)
+        && load.channel < 4
+        && outputs.busy <= DACBUSY_TICKS
+}
+
+fn clocks_work(clocks: &Clocks) -> bool {
+    clocks.hundred < 100
+        && clocks.thousand < 1000
+        && counter_works(&clocks.timer.counter0)
+        && counter_works(&clocks.timer.counter1)
+        && counter_works(&clocks.timer.counter2)
+}
+
+fn counter_works(counter: &Counter) -> bool {
+    if counter.control == 0 {
+        return counter.count.out;
+    }
+    let format_given = counter.control & 0b11_0000 != 0;
+    let binary = counter.control & 1 == 0;
+    let mode = Mode::of_control(counter.control);
+    let one_to_load = mode == Some(Mode::RateGenerator) && counter.count.count_register == 1;
+    counter.control < 64 && format_given && binary && mode.is_some() && !one_to_load
+}
