@@ -42,7 +42,7 @@ for port in 'abc':
     FUNCTIONS.append((EXPORTED, f'dmm32_port_{port}_pins', [('pins', 'u8')], 'PortPins', ('enum', 'Port', 'Port' + port.upper())))
 
 # the crates that declare the types
-HOME = {'Board': 'Rattle.machine', 'Event': 'Rattle.board', 'Answer': 'Rattle.board', 'Din': 'Rattle.board', 'Port': 'Rattle.ports'}
+HOME = {'Board': 'Rattle.machine', 'Event': 'Rattle.events', 'Answer': 'Rattle.events', 'Din': 'Rattle.events', 'Port': 'Rattle.ports'}
 WIDTH = {'u8': 'w8', 'u16': 'w16', 'u32': 'w32', 'i16': 'w16'}
 
 
@@ -188,7 +188,7 @@ use {c["outcome_specs"]}.declared.{O}.{{{O}}}
 use {HOME['Board']}.proofs.Board.Laws as Boardᴸ
 use {HOME['Event']}.proofs.Event as Eventᴿ
 use {HOME['Event']}.proofs.Event.Laws as Eventᴸ
-{"use Rattle.board.proofs.Answer as N" + chr(10) + "use Rattle.board.proofs.Answer.Laws as N′" + chr(10) if c["enum_answer"] else ""}use Rattle.{crate}.proofs.Lending as S
+{"use Rattle.events.proofs.Answer as N" + chr(10) + "use Rattle.events.proofs.Answer.Laws as N′" + chr(10) if c["enum_answer"] else ""}use Rattle.{crate}.proofs.Lending as S
 use Rattle.{crate}.proofs.Lending.{{StepC, eval, aval}}
 use {step_symbol} as step-def
 use {step_symbol}.{{name as #{callee}}}
@@ -369,12 +369,12 @@ use denote.Triple.Clauses.{{ensured, lasts}}
 use Rattle.board.specs.Step.{{stepOf, memoryAfter, eepromAfter}}
 use {HOME['Board']}.specs.declared.Board.{{Board}}
 use {HOME['Event']}.specs.declared.Event.{{Event}}
-{used("Rattle.board.specs.declared.Answer", ["Answer"] if enum else [])}use {c["outcome_specs"]}.declared.{O}.{{{O}}}
+{used("Rattle.events.specs.declared.Answer", ["Answer"] if enum else [])}use {c["outcome_specs"]}.declared.{O}.{{{O}}}
 {c["promise_use"]}use {HOME['Board']}.proofs.Board as Boardᴿ
 use {HOME['Board']}.proofs.Board.Laws as Boardᴸ
 use {HOME['Event']}.proofs.Event as Eventᴿ
 use {HOME['Event']}.proofs.Event.Laws as Eventᴸ
-{"use Rattle.board.proofs.Answer as N" + chr(10) + "use Rattle.board.proofs.Answer.Laws as N′" + chr(10) if enum else ""}use {c["outcome_of"]}.proofs.{O} as O
+{"use Rattle.events.proofs.Answer as N" + chr(10) + "use Rattle.events.proofs.Answer.Laws as N′" + chr(10) if enum else ""}use {c["outcome_of"]}.proofs.{O} as O
 use {c["outcome_of"]}.proofs.{O}.Laws as O′
 use {c["path"]} as step
 use {c["path"]}.Symbol.{{name as #{callee}}}

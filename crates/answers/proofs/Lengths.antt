@@ -5,10 +5,10 @@ use mathlib.Core.List.{List, [], _∷_, _++_}
 use Prim.Native.Nat.{ℕ, _+_, _≤_}
 use native.Mathlib.Omega.{arith}
 use lib.ListN.{length, length-append}
-use Rattle.words.specs.Text.{Wrote, byteText, wordText, decimalText}
-use Rattle.words.proofs.Writing.{decimal-length}
-use Rattle.board.specs.declared.Answer.{Answer}
-use Rattle.board.specs.declared.Answer.the-variants.{Done, Byte, Word, Refused}
+use Rattle.events.specs.declared.Answer.{Answer}
+use Rattle.events.specs.declared.Answer.the-variants.{Done, Byte, Word, Refused}
+use Rattle.text.specs.Text.{Wrote, byteText, wordText, decimalText}
+use Rattle.text.proofs.Writing.{decimal-length}
 use Rattle.answers.specs.Answers.{answerText, irqText, refusedText, newline, eventText, badText}
 
 pub nothing-written : (out : List ℕ) (at : ℕ) → Wrote [] out at out at

@@ -5,9 +5,9 @@ use mathlib.Core.Bool.{Bool, true, false, not, _&&_, _||_}
 use mathlib.Core.List.{List, [], _∷_, _++_}
 use Rattle.requests.specs.declared.Flags.{Flags}
 use Rattle.machine.specs.declared.Board.{Board}
-use Rattle.board.specs.declared.Answer.{Answer}
-use Rattle.board.specs.declared.Answer.the-variants.{Done, Byte, Word, Refused}
-use Rattle.words.specs.Text.{byteText, wordText, decimalText}
+use Rattle.events.specs.declared.Answer.{Answer}
+use Rattle.events.specs.declared.Answer.the-variants.{Done, Byte, Word, Refused}
+use Rattle.text.specs.Text.{byteText, wordText, decimalText}
 
 -- " ok", " refused ", " irq", " bad", newline
 abbrev pub okText : List ℕ

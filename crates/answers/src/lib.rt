@@ -2,7 +2,7 @@
 ghost use mathlib.Core.Path.{_≡_};
 ghost use Prim.Native.Nat.{_+_, _≤_};
 ghost use lib.ListN.{length};
-ghost use Rattle.words.specs.Text.{Wrote};
+ghost use Rattle.text.specs.Text.{Wrote};
 ghost use Rattle.answers.specs.Answers.{byteAnswer, wordAnswer, refusalAnswer, answerText, irqText, asks, eventText, badText};
 use board::Answer;
 use requests::Flags;
@@ -11,24 +11,24 @@ fn put_byte_answer(v: u8, out: &mut [u8], at: usize) -> usize
     requires { ⌜ at + 3 ≤ length (now out) ⌝ }
     ensures { λ r. ⌜ Wrote (byteAnswer v) (now (out .entry)) at (now (out .exit)) r ⌝ }
 {
-    let next = words::text::copy(b" ", out, at);
-    words::text::put_byte(v, out, next)
+    let next = text::copy(b" ", out, at);
+    text::put_byte(v, out, next)
 }
 
 fn put_word_answer(v: u16, out: &mut [u8], at: usize) -> usize
     requires { ⌜ at + 5 ≤ length (now out) ⌝ }
     ensures { λ r. ⌜ Wrote (wordAnswer v) (now (out .entry)) at (now (out .exit)) r ⌝ }
 {
-    let next = words::text::copy(b" ", out, at);
-    words::text::put_word(v, out, next)
+    let next = text::copy(b" ", out, at);
+    text::put_word(v, out, next)
 }
 
 fn put_refusal(n: u8, out: &mut [u8], at: usize) -> usize
     requires { ⌜ at + 29 ≤ length (now out) ⌝ }
     ensures { λ r. ⌜ Wrote (refusalAnswer n) (now (out .entry)) at (now (out .exit)) r ⌝ }
 {
-    let next = words::text::copy(b" refused ", out, at);
-    words::text::put_decimal(n as u64, out, next)
+    let next = text::copy(b" refused ", out, at);
+    text::put_decimal(n as u64, out, next)
 }
 
 fn put_answer(answer: Answer, out: &mut [u8], at: usize) -> usize
@@ -36,7 +36,7 @@ fn put_answer(answer: Answer, out: &mut [u8], at: usize) -> usize
     ensures { λ r. ⌜ Wrote (answerText answer) (now (out .entry)) at (now (out .exit)) r ⌝ }
 {
     match answer {
-        Answer::Done => words::text::copy(b" ok", out, at),
+        Answer::Done => text::copy(b" ok", out, at),
         Answer::Byte(v) => put_byte_answer(v, out, at),
         Answer::Word(v) => put_word_answer(v, out, at),
         Answer::Refused(n) => put_refusal(n, out, at),
@@ -48,7 +48,7 @@ fn put_irq(raised: bool, out: &mut [u8], at: usize) -> usize
     ensures { λ r. ⌜ Wrote (irqText raised) (now (out .entry)) at (now (out .exit)) r ⌝ }
 {
     if raised {
-        words::text::copy(b" irq", out, at)
+        text::copy(b" irq", out, at)
     } else {
         at
     }
@@ -66,10 +66,10 @@ pub fn put_event(number: u64, answer: Answer, raised: bool, out: &mut [u8], at: 
     requires { ⌜ at + 64 ≤ length (now out) ⌝ }
     ensures { λ r. ⌜ Wrote (eventText number answer raised) (now (out .entry)) at (now (out .exit)) r ⌝ }
 {
-    let first = words::text::put_decimal(number, out, at);
+    let first = text::put_decimal(number, out, at);
     let second = put_answer(answer, out, first);
     let third = put_irq(raised, out, second);
-    words::text::copy(b"\n", out, third)
+    text::copy(b"\n", out, third)
 }
 
 // The whole line for another line.
@@ -77,6 +77,6 @@ pub fn put_bad(number: u64, out: &mut [u8], at: usize) -> usize
     requires { ⌜ at + 64 ≤ length (now out) ⌝ }
     ensures { λ r. ⌜ Wrote (badText number) (now (out .entry)) at (now (out .exit)) r ⌝ }
 {
-    let first = words::text::put_decimal(number, out, at);
-    words::text::copy(b" bad\n", out, first)
+    let first = text::put_decimal(number, out, at);
+    text::copy(b" bad\n", out, first)
 }

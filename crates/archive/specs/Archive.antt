@@ -6,11 +6,11 @@ use mathlib.Core.List.{List}
 use mathlib.Core.Path.{_≡_, sym, subst}
 use lib.ListN.{length}
 use Rattle.machine.specs.declared.Board.{Board}
-use Rattle.board.specs.Working.{WorkingBoard}
-use Rattle.collector.specs.declared.Collector.{Collector}
-use Rattle.collector.specs.declared.Settings.{Settings}
-use Rattle.collector.specs.declared.Started.the-variants.{Begun}
-use Rattle.collector.specs.Reply.{started}
+use Rattle.board_refusal.specs.Working.{WorkingBoard}
+use Rattle.collector_phases.specs.declared.Collector.{Collector}
+use Rattle.collector_settings.specs.declared.Settings.{Settings}
+use Rattle.collector_records.specs.declared.Started.the-variants.{Begun}
+use Rattle.collector_records.specs.Records.{started}
 use Rattle.collector.specs.Kept.{started-begun}
 use Rattle.turns.specs.Real.{lent, real, words}
 use Rattle.archive.specs.Demand.{Demand3}

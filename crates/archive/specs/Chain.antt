@@ -9,9 +9,9 @@ use lib.Dec.{eqb, leb}
 use Rattle.base.specs.Choice.{if_then_else_}
 use Rattle.base.specs.Laws.{by-test}
 use Rattle.converter.specs.Channels.{nextChannel}
-use Rattle.collector.specs.declared.Settings.{Settings}
-use Rattle.collector.specs.declared.Sample.{Sample}
-use Rattle.collector.specs.Fit.{FitSettings}
+use Rattle.collector_settings.specs.declared.Settings.{Settings}
+use Rattle.collector_answers.specs.declared.Sample.{Sample}
+use Rattle.collector_phases.specs.Fit.{FitSettings}
 
 -- the channel after this one: high goes to low, else one up
 abbrev pub follows : Settings → ℕ → ℕ

@@ -12,9 +12,9 @@ use lib.Dec.{leb}
 use lib.ListN.{length, take}
 use Rattle.base.specs.Choice.{if_then_else_}
 use Rattle.converter.specs.Codes.{codeOf}
-use Rattle.collector.specs.declared.Access.{Access}
-use Rattle.collector.specs.declared.Access.the-variants.{WriteByte, ReadByte, ReadWord, NoAccess}
-use Rattle.collector.specs.declared.Sample.{Sample}
+use Rattle.collector_phases.specs.declared.Access.{Access}
+use Rattle.collector_phases.specs.declared.Access.the-variants.{WriteByte, ReadByte, ReadWord, NoAccess}
+use Rattle.collector_answers.specs.declared.Sample.{Sample}
 use Rattle.turns.specs.Machine.{Machine, Host}
 use Rattle.archive.specs.Run.{Happening, turn, Run, begin, _▸_, System, next, given, gap, after, givenIn, gapsIn, turns}
 use Rattle.archive.specs.Log.{Log, asks, log}

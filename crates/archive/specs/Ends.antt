@@ -13,9 +13,9 @@ use Rattle.base.specs.Choice.{if_then_else_}
 use Rattle.fifo.specs.Samples.{pushed}
 use Rattle.converter.specs.Channels.{idle}
 use Rattle.converter.specs.Codes.{sampleOf, codeOf}
-use Rattle.collector.specs.declared.Settings.{Settings}
-use Rattle.collector.specs.declared.Sample.{Sample}
-use Rattle.collector.specs.Fit.{FitSettings}
+use Rattle.collector_settings.specs.declared.Settings.{Settings}
+use Rattle.collector_answers.specs.declared.Sample.{Sample}
+use Rattle.collector_phases.specs.Fit.{FitSettings}
 use Rattle.turns.specs.Machine.{View}
 use Rattle.archive.specs.Log.{Log, counted, atMostOne, noteWorld}
 use Rattle.archive.specs.Laws.{starting}

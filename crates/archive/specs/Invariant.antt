@@ -3,16 +3,18 @@ use Prim.Native.Nat.{ℕ}
 use mathlib.Core.Bool.{Bool, true, false}
 use mathlib.Core.List.{List, []}
 use mathlib.Core.Path.{_≡_, refl, sym, _∙_, ap, subst}
-use Rattle.board.specs.declared.Answer.{Answer}
-use Rattle.board.specs.declared.Event.{Event}
-use Rattle.collector.specs.declared.Access.{Access}
-use Rattle.collector.specs.declared.Access.the-variants.{WriteByte, ReadByte, ReadWord, NoAccess}
-use Rattle.collector.specs.declared.Collector.{Collector}
-use Rattle.collector.specs.declared.Settings.{Settings}
-use Rattle.collector.specs.declared.Taken.{Taken}
-use Rattle.collector.specs.Phases.{phaseOf, accessIn}
-use Rattle.collector.specs.Fit.{FitSettings, FitCollector}
-use Rattle.collector.specs.Reply.{accessOf, replied, begun}
+use Rattle.events.specs.declared.Answer.{Answer}
+use Rattle.events.specs.declared.Event.{Event}
+use Rattle.collector_phases.specs.declared.Access.{Access}
+use Rattle.collector_phases.specs.declared.Access.the-variants.{WriteByte, ReadByte, ReadWord, NoAccess}
+use Rattle.collector_phases.specs.declared.Collector.{Collector}
+use Rattle.collector_settings.specs.declared.Settings.{Settings}
+use Rattle.collector_steps.specs.declared.Taken.{Taken}
+use Rattle.collector_phases.specs.Phases.{phaseOf, accessIn}
+use Rattle.collector_phases.specs.Fit.{FitSettings, FitCollector}
+use Rattle.collector_phases.specs.Accesses.{accessOf}
+use Rattle.collector_replies.specs.Reply.{replied}
+use Rattle.collector_records.specs.Records.{begun}
 use Rattle.collector.specs.Counts.{step-holds}
 use Rattle.collector.specs.Steps.{step, access-fit}
 use Rattle.collector.specs.Kept.{begun-fit, replied-fit}

@@ -1,49 +1,45 @@
 -- What holds in each phase of the collector is kept by its turn, and so by every run. Assumes nothing.
-use Prim.Native.Nat.{ℕ, suc, _+_, _-_, _≤_, _<_}
-use mathlib.Core.Bool.{Bool, true, false, _&&_, _||_, true≢false}
-use mathlib.Core.List.{List, [], _∷_, _++_, IsPrefix, append-assoc, append-nil}
-use mathlib.Core.Option.{Option, none, some}
+use Prim.Native.Nat.{ℕ, suc, _+_, _-_, _<_}
+use mathlib.Core.Bool.{true, false}
+use mathlib.Core.List.{List, [], _∷_, _++_, append-nil}
+use mathlib.Core.Option.{some}
 use mathlib.Core.Path.{_≡_, refl, sym, _∙_, ap, subst}
 use native.Mathlib.Omega.{arith}
-use borrow.Author.Tests.{leb-true, leb-false}
-use lib.Dec.{eqb, leb}
+use borrow.Author.Tests.{leb-false}
+use lib.Dec.{eqb}
 use lib.ListN.{length}
-use Rattle.base.specs.Choice.{if_then_else_}
-use Rattle.converter.specs.Codes.{sampleOf, codeOf}
-use Rattle.board.specs.declared.Answer.the-variants.{Done, Byte, Word}
-use Rattle.board.specs.declared.Event.the-variants as event
-use Rattle.collector.specs.declared.Access.{Access}
-use Rattle.collector.specs.declared.Access.the-variants.{WriteByte, ReadByte, ReadWord, NoAccess}
-use Rattle.collector.specs.declared.Collector.{Collector}
-use Rattle.collector.specs.declared.Settings.{Settings}
-use Rattle.collector.specs.declared.Sample.{Sample}
-use Rattle.collector.specs.declared.Taken.{Taken}
-use Rattle.collector.specs.declared.Phase.{Phase}
-use Rattle.collector.specs.declared.Phase.the-variants.{Stop, Poll, Range, Clear, Low, High, Go, Look, Take, Drain, Stuck, Unknown}
-use Rattle.collector.specs.Settings.{clockByte}
-use Rattle.collector.specs.Phases.{phaseOf, accessIn}
-use Rattle.collector.specs.Answers.{STS, EF, isFull, sampleAt}
-use Rattle.collector.specs.Fit.{FitSettings, FitCollector}
-use Rattle.collector.specs.Reply.{accessOf, replied}
+use Rattle.base.specs.Laws.{never}
+use Rattle.events.specs.declared.Event.the-variants as event
+use Rattle.converter.specs.Codes.{sampleOf}
+use Rattle.events.specs.declared.Answer.the-variants.{Done, Byte}
+use Rattle.collector_phases.specs.declared.Access.{Access}
+use Rattle.collector_phases.specs.declared.Access.the-variants.{WriteByte, ReadByte, ReadWord, NoAccess}
+use Rattle.collector_phases.specs.declared.Collector.{Collector}
+use Rattle.collector_settings.specs.declared.Settings.{Settings}
+use Rattle.collector_answers.specs.declared.Sample.{Sample}
+use Rattle.collector_steps.specs.declared.Taken.{Taken}
+use Rattle.collector_phases.specs.declared.Phase.{Phase}
+use Rattle.collector_phases.specs.declared.Phase.the-variants.{Stop, Poll, Range, Clear, Low, High, Go, Look, Take, Drain, Stuck, Unknown}
+use Rattle.collector_settings.specs.Settings.{clockByte}
+use Rattle.collector_phases.specs.Phases.{phaseOf, accessIn}
+use Rattle.collector_answers.specs.Answers.{wide, STS, sampleAt}
+use Rattle.collector_phases.specs.Fit.{FitCollector}
+use Rattle.collector_replies.specs.Reply.{replied}
 use Rattle.collector.specs.Handed.{samplesOf, gapMarked}
-use Rattle.collector.specs.Counts.{step-holds}
-use Rattle.collector.specs.Steps.{Step, step, access-fit}
+use Rattle.collector.specs.Handed.{is-go}
+use Rattle.collector.specs.Steps.{Step, step}
 use Rattle.collector.specs.Steps.{stopped, poll-wide, poll-free, poll-again, poll-last, ranged, cleared, lowered, raised, went}
-use Rattle.collector.specs.Steps.{look-wide, look-contradicts, look-empty, look-full, look-few, taken, drained, closed, stands}
-use Rattle.collector.specs.Kept.{replied-fit}
+use Rattle.collector.specs.Steps.{look-wide, look-contradicts, look-empty, look-full, look-few, taken, drained, closed}
 use Rattle.turns.specs.Machine.{View, Machine}
 use Rattle.turns.specs.Turn.{Turning, eventOf, turnBy}
 use Rattle.turns.specs.Real.{words}
-use Rattle.archive.specs.Log.{Log, isGo, stretch, noteTurn, bringsBy, beginsBy, selected}
+use Rattle.archive.specs.Log.{Log, noteTurn, bringsBy, beginsBy, selected}
 use Rattle.archive.specs.Laws.{Laws, Serves, Fetches, clocked, leaving}
 use Rattle.archive.specs.Laws as view
 use Rattle.archive.specs.Chain.{follows}
-use Rattle.archive.specs.Phases.{wordsOf, length-words, Idle, Quiet, Running, Queue, no-loss, Looking, Taking, Draining, Fact, FactOf}
-use Rattle.archive.specs.Sights.{status, no-contradiction, shows-none, shows-some, shows-all, shows-few}
-use Rattle.archive.specs.Turns.{rewaiting, still, idle-on, quiet-on, running-on, looking-on, look-some, look-all, handing, running-hand, queue-hand, Oldest, oldest-of, is-go}
-
-never : {A : Type 0} → true ≡ false → A
-never h = absurd (true≢false h)
+use Rattle.archive.specs.Phases.{wordsOf, length-words, Idle, Queue, no-loss, Taking, Draining, Fact, FactOf}
+use Rattle.archive.specs.Sights.{status, no-contradiction, shows-some, shows-all, shows-few}
+use Rattle.archive.specs.Turns.{still, idle-on, quiet-on, running-on, looking-on, look-some, look-all, handing, running-hand, queue-hand, Oldest, oldest-of}
 
 module _ (M : Machine) (Working : M .Board → Type 0) (laws : Laws M Working) where
   module _ (b : M .Board) (wk : Working b) (c : Collector) (fc : FitCollector c) (l : Log) where
@@ -68,10 +64,10 @@ module _ (M : Machine) (Working : M .Board → Type 0) (laws : Laws M Working) w
     unfolding phaseOf
     stop-after r stopped k = rw (still (WriteByte 9 0) 0 ch l refl) (idle-on l (l .waiting) (k .0), k .1, refl)
 
-    poll-after : (a : ℕ) (r : Taken) → Rattle.collector.specs.Answers.wide a ≡ false → STS a ≡ v .converter .converting → Step c a Poll r → Now Poll
+    poll-after : (a : ℕ) (r : Taken) → wide a ≡ false → STS a ≡ v .converter .converting → Step c a Poll r → Now Poll
         → After (ReadByte 8) a r v
     unfolding phaseOf
-    poll-after a r q s (poll-wide e) k = never (sym e ∙ q)
+    poll-after a r q s (poll-wide e) k = never (sym q ∙ e)
     poll-after a r q s (poll-free e f) k =
         rw (still (ReadByte 8) a ch l refl) (record { idle = idle-on l (l .waiting) (k .0); aim = k .1; off = k .2; still = sym s ∙ f })
     poll-after a r q s (poll-again e f g) k = rw (still (ReadByte 8) a ch l refl) (idle-on l (l .waiting) (k .0), k .1, k .2)
@@ -130,7 +126,7 @@ module _ (M : Machine) (Working : M .Board → Type 0) (laws : Laws M Working) w
     look-after : (r : Taken) → phaseOf (c .phase) ≡ Look → Step c (status M Working laws b wk) Look r → Now Look
         → After (ReadByte 7) (status M Working laws b wk) r v
     unfolding phaseOf
-    look-after r p (look-wide e) k = never (sym e ∙ laws .looks b wk .narrow)
+    look-after r p (look-wide e) k = never (sym (laws .looks b wk .narrow) ∙ e)
     look-after r p (look-contradicts e d) k = absurd (no-contradiction M Working laws b wk d)
     look-after r p (look-empty e d f) k =
         rw (still (ReadByte 7) (status M Working laws b wk) ch l refl, p)

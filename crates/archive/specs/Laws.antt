@@ -12,13 +12,13 @@ use Rattle.fifo.specs.Samples.{pushed}
 use Rattle.converter.specs.Channels.{started, endStarts, ended}
 use Rattle.converter.specs.Codes.{sampleOf, codeOf}
 use Rattle.converter.specs.Registers.{withRange, withBits}
-use Rattle.board.specs.declared.Answer.{Answer}
-use Rattle.board.specs.declared.Answer.the-variants.{Done, Byte, Word}
-use Rattle.board.specs.declared.Event.{Event}
-use Rattle.board.specs.declared.Event.the-variants.{WriteByte, ReadByte, ReadWord}
-use Rattle.collector.specs.declared.Settings.{Settings}
-use Rattle.collector.specs.Settings.{clockByte}
-use Rattle.collector.specs.Answers.{wide, STS, EF, HF, FF, OVF}
+use Rattle.events.specs.declared.Answer.{Answer}
+use Rattle.events.specs.declared.Answer.the-variants.{Done, Byte, Word}
+use Rattle.events.specs.declared.Event.{Event}
+use Rattle.events.specs.declared.Event.the-variants.{WriteByte, ReadByte, ReadWord}
+use Rattle.collector_settings.specs.declared.Settings.{Settings}
+use Rattle.collector_settings.specs.Settings.{clockByte}
+use Rattle.collector_answers.specs.Answers.{wide, STS, EF, HF, FF, OVF}
 use Rattle.turns.specs.Machine.{View, Machine}
 use Rattle.archive.specs.World.{World, eventIn}
 

@@ -7,7 +7,7 @@ use native.Mathlib.Omega.{arith}
 use Rattle.converter.specs.Codes.{sampleOf}
 use Rattle.converter.specs.Registers.{freshConverter}
 use Rattle.converter.specs.Working.{fresh-works}
-use Rattle.collector.specs.declared.Sample.{Sample}
+use Rattle.collector_answers.specs.declared.Sample.{Sample}
 use Rattle.turns.specs.Real.{real, words}
 use Rattle.archive.specs.Run.{turn, Run, _▸_}
 use Rattle.archive.specs.Log.{Log, log}

@@ -2,23 +2,23 @@
 -- handed over, and how far the limit was kept (condition 3 of acceptance; the specification, "The collector": "For demand 3 a start ends with
 -- its last write, 9←02 or 03").
 use Prim.Native.Nat.{ℕ, _+_}
-use mathlib.Core.Bool.{Bool, true, false, not, _&&_, _||_}
+use mathlib.Core.Bool.{Bool, true, false, _&&_, _||_}
 use mathlib.Core.List.{List, [], _∷_, _++_}
 use mathlib.Core.Option.{Option, none, some}
 use lib.IntN.{ℤ}
 use lib.Dec.{eqb, leb}
 use Rattle.base.specs.Choice.{if_then_else_}
-use Rattle.board.specs.declared.Answer.{Answer}
-use Rattle.board.specs.declared.Answer.the-variants.{Done, Byte, Word, Refused}
-use Rattle.collector.specs.declared.Access.{Access}
-use Rattle.collector.specs.declared.Access.the-variants.{WriteByte, ReadByte, ReadWord, NoAccess}
-use Rattle.collector.specs.declared.Sample.{Sample}
-use Rattle.collector.specs.Answers.{EF, isFull}
+use Rattle.events.specs.Answers.{valueRead}
+use Rattle.collector_phases.specs.declared.Access.{Access}
+use Rattle.collector_phases.specs.declared.Access.the-variants.{WriteByte, ReadByte, ReadWord, NoAccess}
+use Rattle.collector_answers.specs.declared.Sample.{Sample}
+use Rattle.collector_answers.specs.Answers.{EF, isFull}
+use Rattle.collector.specs.Handed.{isGo}
 use Rattle.turns.specs.declared.Asked.{Asked}
 use Rattle.turns.specs.declared.Asked.the-variants.{Made, NotMade}
 use Rattle.turns.specs.Machine.{Machine, Host}
 use Rattle.turns.specs.Turn.{eventOf}
-use Rattle.archive.specs.World.{World, eventIn}
+use Rattle.archive.specs.World.{eventIn}
 use Rattle.archive.specs.Run.{Happening, turn, world, Run, begin, _▸_, System, given, gap, after}
 
 pub record Log : Type 0 where
@@ -69,13 +69,6 @@ noteWorld e begins selected l =
     }
 
 -- ---- a turn: an access, the number that it brought, and what was handed over
--- the end of a start: 9←02 or 03
-abbrev pub isGo : Access → Bool
-isGo (WriteByte o v) = eqb o 9 && (eqb v 2 || eqb v 3)
-isGo (ReadByte o) = false
-isGo (ReadWord o) = false
-isGo (NoAccess n) = false
-
 -- the stretch of the limit begins at a look that shows the memory neither empty nor full, and ends at a word read
 abbrev pub stretch : Access → ℕ → Option ℕ → Option ℕ
 stretch (WriteByte o v) a k = k
@@ -95,16 +88,9 @@ noteTurn x a begins selected out gap l =
       within = if isGo x then true else l .within;
     }
 
--- the number that an answer brings
-abbrev pub numberIn : Answer → ℕ
-numberIn Done = 0
-numberIn (Byte byte) = byte
-numberIn (Word word) = word
-numberIn (Refused number) = 0
-
 module _ (M : Machine) where
   abbrev pub bringsBy : M .Board → Asked → ℕ
-  bringsBy b (Made ev) = numberIn (M .answered b ev)
+  bringsBy b (Made ev) = valueRead (M .answered b ev)
   bringsBy b (NotMade n) = 0
 
   abbrev pub beginsBy : M .Board → Asked → Bool

@@ -1,6 +1,6 @@
 -- A look, and all that it owes: the parts `yields`, `marks` and `again` of demand 3. Assumes nothing.
 use Prim.Native.Nat.{ℕ, zero, suc, _+_, _≤_, _<_}
-use mathlib.Core.Bool.{Bool, true, false, true≢false}
+use mathlib.Core.Bool.{Bool, true, false}
 use mathlib.Core.List.{List, [], _∷_, _++_, append-nil}
 use mathlib.Core.Path.{_≡_, refl, sym, _∙_, ap, subst}
 use native.Mathlib.Omega.{arith}
@@ -9,19 +9,21 @@ use lib.Dec.{eqb, leb}
 use lib.ListN.{length, length-append, take}
 use lib.Seq.{take-at}
 use Rattle.base.specs.Choice.{if_then_else_}
-use Rattle.board.specs.declared.Answer.the-variants.{Byte}
-use Rattle.board.specs.declared.Event.the-variants as event
-use Rattle.collector.specs.declared.Access.{Access}
-use Rattle.collector.specs.declared.Access.the-variants.{WriteByte, ReadByte, ReadWord, NoAccess}
-use Rattle.collector.specs.declared.Collector.{Collector}
-use Rattle.collector.specs.declared.Settings.{Settings}
-use Rattle.collector.specs.declared.Sample.{Sample}
-use Rattle.collector.specs.declared.Taken.{Taken}
-use Rattle.collector.specs.declared.Phase.{Phase}
-use Rattle.collector.specs.declared.Phase.the-variants.{Stop, Poll, Range, Clear, Low, High, Go, Look, Take, Drain, Stuck, Unknown}
-use Rattle.collector.specs.Phases.{phaseOf, accessIn}
-use Rattle.collector.specs.Fit.{FitCollector}
-use Rattle.collector.specs.Reply.{accessOf, replied}
+use Rattle.base.specs.Laws.{never}
+use Rattle.events.specs.declared.Answer.the-variants.{Byte}
+use Rattle.events.specs.declared.Event.the-variants as event
+use Rattle.collector_phases.specs.declared.Access.{Access}
+use Rattle.collector_phases.specs.declared.Access.the-variants.{WriteByte, ReadByte, ReadWord, NoAccess}
+use Rattle.collector_phases.specs.declared.Collector.{Collector}
+use Rattle.collector_settings.specs.declared.Settings.{Settings}
+use Rattle.collector_answers.specs.declared.Sample.{Sample}
+use Rattle.collector_steps.specs.declared.Taken.{Taken}
+use Rattle.collector_phases.specs.declared.Phase.{Phase}
+use Rattle.collector_phases.specs.declared.Phase.the-variants.{Stop, Poll, Range, Clear, Low, High, Go, Look, Take, Drain, Stuck, Unknown}
+use Rattle.collector_phases.specs.Phases.{phaseOf, accessIn}
+use Rattle.collector_phases.specs.Fit.{FitCollector}
+use Rattle.collector_phases.specs.Accesses.{accessOf}
+use Rattle.collector_replies.specs.Reply.{replied}
 use Rattle.collector.specs.Handed.{samplesOf, gapMarked}
 use Rattle.collector.specs.Steps.{Step, access-fit}
 use Rattle.collector.specs.Steps.{poll-wide, poll-free, poll-again, poll-last, ranged, cleared, lowered, raised, went, look-wide, look-contradicts, look-empty, look-full, look-few}
@@ -34,9 +36,6 @@ use Rattle.archive.specs.Laws.{Laws}
 use Rattle.archive.specs.Sights.{status, no-contradiction, shows-none, shows-some, shows-all, shows-few}
 use Rattle.archive.specs.Invariant.{Sound, sound}
 use Rattle.archive.specs.Yields.{Stage, marked, Owing, owing, turn-of, step-in}
-
-never : {A : Type 0} → true ≡ false → A
-never h = absurd (true≢false h)
 
 -- ---- how many are owed
 owed-none : (h : List ℕ) → length h ≡ 0 → (leb 512 (length h) ≡ false) × (owed h ≡ 0)
@@ -100,7 +99,7 @@ module _ (M : Machine) (Working : M .Board → Type 0) (laws : Laws M Working) w
 
     opens : (r : Taken) → Step (x .collector) a Look r → Open r
     unfolding phaseOf
-    opens r (look-wide e) = never (sym e ∙ laws .looks (x .board) wk .narrow)
+    opens r (look-wide e) = never (sym (laws .looks (x .board) wk .narrow) ∙ e)
     opens r (look-contradicts e d) = absurd (no-contradiction M Working laws (x .board) wk d)
     opens r (look-empty e d f) =
         let n : length h ≡ 0 = shows-none M Working laws (x .board) wk f in

@@ -6,12 +6,12 @@ use mathlib.Core.Option.{Option, none, some}
 use mathlib.Core.Path.{_≡_, refl, ap}
 use lib.ListN.{length}
 use Rattle.converter.specs.Codes.{sampleOf, codeOf}
-use Rattle.collector.specs.declared.Settings.{Settings}
-use Rattle.collector.specs.declared.Collector.{Collector}
-use Rattle.collector.specs.declared.Sample.{Sample}
-use Rattle.collector.specs.declared.Phase.{Phase}
-use Rattle.collector.specs.declared.Phase.the-variants.{Stop, Poll, Range, Clear, Low, High, Go, Look, Take, Drain, Stuck, Unknown}
-use Rattle.collector.specs.Phases.{phaseOf}
+use Rattle.collector_settings.specs.declared.Settings.{Settings}
+use Rattle.collector_phases.specs.declared.Collector.{Collector}
+use Rattle.collector_answers.specs.declared.Sample.{Sample}
+use Rattle.collector_phases.specs.declared.Phase.{Phase}
+use Rattle.collector_phases.specs.declared.Phase.the-variants.{Stop, Poll, Range, Clear, Low, High, Go, Look, Take, Drain, Stuck, Unknown}
+use Rattle.collector_phases.specs.Phases.{phaseOf}
 use Rattle.turns.specs.Machine.{View}
 use Rattle.archive.specs.Log.{Log}
 use Rattle.archive.specs.Chain.{follows, Chain}

@@ -23,13 +23,13 @@ use Rattle.bus.specs.Effects.{readEffect}
 use Rattle.bus_write.specs.Write.{writtenAt}
 use Rattle.bus.specs.Effects.{writeEffect}
 use Rattle.bus_refusal.specs.Refusals.{writeChecks, readChecks}
-use Rattle.board.specs.Refusals.{eventChecks}
-use Rattle.board.specs.Act.{acted}
+use Rattle.board_refusal.specs.Refusals.{eventChecks}
+use Rattle.board_act.specs.Act.{acted}
 use Rattle.board.specs.Step.{ran}
 use Rattle.board.specs.Held.{Held, answered, happened}
 use Rattle.board.specs.Begins.{begins}
-use Rattle.board.specs.declared.Answer.the-variants.{Done, Byte, Word}
-use Rattle.board.specs.declared.Event.the-variants.{WriteByte, ReadByte, ReadWord}
+use Rattle.events.specs.declared.Answer.the-variants.{Done, Byte, Word}
+use Rattle.events.specs.declared.Event.the-variants.{WriteByte, ReadByte, ReadWord}
 use Rattle.turns.specs.Real.{Lent, real}
 use Rattle.archive.specs.Bits.{sts-shown, ef-shown, hf-shown, ff-shown, ovf-shown, status-narrow}
 use Rattle.archive.specs.Laws.{clocked, cleared, lowered, raised, leaving, Serves, Polls, Looks, Fetches}

@@ -29,18 +29,19 @@ use Rattle.bus.specs.Effects.{readEffect}
 use Rattle.bus_write.specs.Write.{writtenAt}
 use Rattle.bus.specs.Effects.{writeEffect}
 use Rattle.bus_refusal.specs.Refusals.{writeChecks, readChecks}
-use Rattle.board.specs.Refusals.{eventChecks}
-use Rattle.board.specs.Act.{acted, eepromActed}
+use Rattle.board_refusal.specs.Refusals.{eventChecks}
+use Rattle.board_act.specs.Act.{acted, eepromActed}
 use Rattle.board.specs.Step.{ran}
 use Rattle.board.specs.Held.{Held, answered, happened, step-held}
-use Rattle.board.specs.Begins.{begins}
-use Rattle.collector.specs.declared.Access.{Access}
-use Rattle.collector.specs.Settings.{startRefusal}
-use Rattle.collector.specs.Phases.{phaseOf}
-use Rattle.collector.specs.Fit.{fit}
-use Rattle.collector.specs.Reply.{accessOf, replied}
+use Rattle.board.specs.Begins.{begins, codeIn}
+use Rattle.collector_phases.specs.declared.Access.{Access}
+use Rattle.collector_settings.specs.Settings.{startRefusal}
+use Rattle.collector_phases.specs.Phases.{phaseOf}
+use Rattle.collector_phases.specs.Fit.{fit}
+use Rattle.collector_phases.specs.Accesses.{accessOf}
+use Rattle.collector_replies.specs.Reply.{replied}
 use Rattle.turns.specs.Machine.{Machine, Host}
-use Rattle.turns.specs.Real.{Lent, codeIn, real}
+use Rattle.turns.specs.Real.{Lent, real}
 use Rattle.archive.specs.Run.{Run, System, after}
 use Rattle.archive.specs.Log.{Log, asks, log}
 use Rattle.archive.specs.Demand.{look, wordRead, Either, Demand3}

@@ -7,14 +7,14 @@ use mathlib.Core.Path.{_≡_, refl, sym, ap, subst, _∙_}
 use lib.Dec.{eqb}
 use lib.ListN.{length}
 use Rattle.base.specs.Choice.{if_then_else_}
-use Rattle.board.specs.Working.{WorkingBoard}
+use Rattle.board_refusal.specs.Working.{WorkingBoard}
 use Rattle.board.specs.Held.{Held, eventNumber, answered, happened, heldIn, number-working, step-held}
 use Rattle.board.specs.Kept.{step-kept, eeprom-kept}
-use Rattle.board.specs.Begins.{begins}
-use Rattle.board.specs.declared.Answer.{Answer}
-use Rattle.board.specs.declared.Event.{Event}
+use Rattle.events.specs.declared.Answer.{Answer}
+use Rattle.events.specs.declared.Event.{Event}
+use Rattle.board.specs.Begins.{begins, codeIn}
 use Rattle.turns.specs.Machine.{View}
-use Rattle.turns.specs.Real.{Lent, takes, codeIn, real}
+use Rattle.turns.specs.Real.{Lent, takes, real}
 use Rattle.archive.specs.Laws.{Happens, Serves}
 
 -- a working board with an EEPROM of its length

@@ -22,15 +22,15 @@ use Rattle.machine_tick.specs.Tick.{dividersTicked, counter0Ticked}
 use Rattle.machine_pins.specs.Pins.{fellFrom, dinMoved, triggersStopped, latchSet, portSet}
 use Rattle.machine.specs.declared.Board.{Board}
 use Rattle.ports.specs.declared.Port.{Port}
-use Rattle.board.specs.Refusals.{eventChecks}
-use Rattle.board.specs.Act.{acted}
+use Rattle.board_refusal.specs.Refusals.{eventChecks}
+use Rattle.board_act.specs.Act.{acted}
 use Rattle.board.specs.Step.{ran}
 use Rattle.board.specs.Held.{Held, ranHeld, happened}
 use Rattle.board.specs.Begins.{begins, tickBegins}
 use Rattle.board.specs.Conversions.{begun, din-triggered, tick-lost, counter0-same}
-use Rattle.board.specs.declared.Din.{Din}
-use Rattle.board.specs.declared.Event.{Event}
-use Rattle.board.specs.declared.Event.the-variants.{ConversionEnd, DinPins, LatchLevel, PortPins, Tick, TransferEnd}
+use Rattle.events.specs.declared.Din.{Din}
+use Rattle.events.specs.declared.Event.{Event}
+use Rattle.events.specs.declared.Event.the-variants.{ConversionEnd, DinPins, LatchLevel, PortPins, Tick, TransferEnd}
 use Rattle.turns.specs.Machine.{View}
 use Rattle.turns.specs.Real.{Lent, real}
 use Rattle.archive.specs.World.{World, conversion-end, din-pins, latch-level, port-pins, tick, transfer-end, eventIn}

@@ -6,7 +6,7 @@ use native.Mathlib.Omega.{arith}
 use borrow.Author.Tests.{leb-true, leb-false}
 use lib.Dec.{leb}
 use lib.ListN.{length}
-use Rattle.collector.specs.Answers.{EF, HF, FF, OVF, contradicts, isFull}
+use Rattle.collector_answers.specs.Answers.{EF, HF, FF, OVF, contradicts, isFull}
 use Rattle.turns.specs.Machine.{Machine}
 use Rattle.archive.specs.Laws.{Looks, Laws}
 

@@ -5,11 +5,12 @@ use mathlib.Core.List.{List}
 use mathlib.Core.Option.{Option}
 use mathlib.Core.Path.{_≡_, refl, ap, _∙_}
 use lib.IntN.{ℤ}
-use Rattle.board.specs.declared.Answer.{Answer}
-use Rattle.board.specs.declared.Event.{Event}
-use Rattle.collector.specs.declared.Access.{Access}
-use Rattle.collector.specs.declared.Collector.{Collector}
-use Rattle.collector.specs.declared.Sample.{Sample}
+use Rattle.events.specs.Answers.{valueRead}
+use Rattle.events.specs.declared.Answer.{Answer}
+use Rattle.events.specs.declared.Event.{Event}
+use Rattle.collector_phases.specs.declared.Access.{Access}
+use Rattle.collector_phases.specs.declared.Collector.{Collector}
+use Rattle.collector_answers.specs.declared.Sample.{Sample}
 use Rattle.collector.specs.Handed.{samplesOf, gapMarked}
 use Rattle.turns.specs.declared.Asked.{Asked}
 use Rattle.turns.specs.declared.Asked.the-variants.{Made, NotMade}
@@ -19,7 +20,7 @@ use Rattle.turns.specs.Machine.{View, Machine, Host}
 use Rattle.turns.specs.Turn.{eventOf, Turning, broughtBy, broughtTo, turnBy}
 use Rattle.archive.specs.World.{eventIn}
 use Rattle.archive.specs.Run.{Happening, turn, world, Run, begin, _▸_, System, next, after}
-use Rattle.archive.specs.Log.{Log, numberIn, noteWorld, noteTurn, bringsBy, beginsBy, selected, note, log}
+use Rattle.archive.specs.Log.{Log, noteWorld, noteTurn, bringsBy, beginsBy, selected, note, log}
 
 -- the board b of M, while it works, shows what f b of N does
 pub record Simulates (M N : Machine) (Working : M .Board → Type 0) (f : M .Board → N .Board) : Type 0 where
@@ -79,7 +80,7 @@ module _ (M N : Machine) (Working : M .Board → Type 0) (f : M .Board → N .Bo
       ap (λ (y : N .Board). record { board = y; collector = x .collector }) (sim .steps (x .board) (eventIn v) w)
 
   brings-same : (q : Asked) (b : M .Board) → Working b → bringsBy M b q ≡ bringsBy N (f b) q
-  brings-same (Made ev) b w = ap numberIn (sim .answers b ev w)
+  brings-same (Made ev) b w = ap valueRead (sim .answers b ev w)
   brings-same (NotMade n) b w = refl
 
   begins-same : (q : Asked) (b : M .Board) → Working b → beginsBy M b q ≡ beginsBy N (f b) q

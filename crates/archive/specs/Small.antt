@@ -16,10 +16,10 @@ use Rattle.converter.specs.Channels.{endStarts}
 use Rattle.converter.specs.Codes.{sampleOf}
 use Rattle.converter.specs.Registers.{withBits, statusBits}
 use Rattle.requests.specs.Registers.{FIFORST}
-use Rattle.board.specs.declared.Answer.{Answer}
-use Rattle.board.specs.declared.Answer.the-variants.{Done, Byte, Word}
-use Rattle.board.specs.declared.Event.{Event}
-use Rattle.board.specs.declared.Event.the-variants.{WriteByte, ReadByte, ReadWord, ConversionEnd, DinPins, LatchLevel, PortPins, Tick, TransferEnd}
+use Rattle.events.specs.declared.Answer.{Answer}
+use Rattle.events.specs.declared.Answer.the-variants.{Done, Byte, Word}
+use Rattle.events.specs.declared.Event.{Event}
+use Rattle.events.specs.declared.Event.the-variants.{WriteByte, ReadByte, ReadWord, ConversionEnd, DinPins, LatchLevel, PortPins, Tick, TransferEnd}
 use Rattle.turns.specs.Machine.{View, Machine}
 use Rattle.archive.specs.Bits.{statusByte}
 use Rattle.archive.specs.Laws.{starting, ending, clocked, lowered, raised, leaving}

@@ -10,15 +10,15 @@ use lib.IntN.{ℤ}
 use lib.Dec.{eqb, leb, ltb}
 use lib.ListN.{length, length-append}
 use Rattle.base.specs.Choice.{if_then_else_}
-use Rattle.base.specs.Laws.{by-choice}
+use Rattle.base.specs.Laws.{by-choice, never}
 use Rattle.base.specs.Weights.{weightOf, weight-le}
 use Rattle.fifo.specs.Samples.{oldestOf, pushed}
 use Rattle.converter.specs.Channels.{endStarts}
 use Rattle.converter.specs.Codes.{sampleOf, codeOf, code-of-sample}
 use Rattle.requests.specs.Registers.{FIFORST}
-use Rattle.board.specs.declared.Answer.the-variants.{Done}
-use Rattle.board.specs.declared.Event.{Event}
-use Rattle.board.specs.declared.Event.the-variants.{WriteByte, ReadByte, ReadWord, ConversionEnd, DinPins, LatchLevel, PortPins, Tick, TransferEnd}
+use Rattle.events.specs.declared.Answer.the-variants.{Done}
+use Rattle.events.specs.declared.Event.{Event}
+use Rattle.events.specs.declared.Event.the-variants.{WriteByte, ReadByte, ReadWord, ConversionEnd, DinPins, LatchLevel, PortPins, Tick, TransferEnd}
 use Rattle.turns.specs.Machine.{View}
 use Rattle.archive.specs.World.{World, conversion-end, din-pins, latch-level, port-pins, tick, transfer-end, eventIn}
 use Rattle.archive.specs.Bits.{sts-shown, ef-shown, hf-shown, ff-shown, ovf-shown, status-narrow}
@@ -30,9 +30,6 @@ use Rattle.archive.specs.Small.{small, smallStep, smallBegins, smallEnds
 pub record SmallWorks (v : View) : Type 0 where
   pub room : length (v .held) ≤ 512
   pub over : v .ovf ≡ true → 512 ≤ length (v .held)
-
-not-set : {A : Type 0} → false ≡ true → A
-not-set h = absurd (let z : _≡_ {A = ℕ} 0 1 = cc in omega arith)
 
 ending-works : (v : View) (s : ℕ) → SmallWorks v → SmallWorks (ending s v)
 unfolding pushed
@@ -47,7 +44,7 @@ ending-works v s k = let p = by (ltb (length (v .held)) 512) refl in record { ro
 
 fetched-works : (v : View) (l : List ℕ) → length l ≤ 512 → SmallWorks v → SmallWorks (fetched v l)
 fetched-works v [] h k = k
-fetched-works v (c ∷ rest) h k = record { room = omega arith; over = λ o. not-set o }
+fetched-works v (c ∷ rest) h k = record { room = omega arith; over = λ o. never o }
 
 -- a view with the same samples and OVF
 alike : (v v′ : View) → v′ .held ≡ v .held → v′ .ovf ≡ v .ovf → SmallWorks v → SmallWorks v′
@@ -58,7 +55,7 @@ written-works v n x k =
     by-choice SmallWorks (eqb n 2) (alike v _ refl refl k)
     (by-choice SmallWorks (eqb n 3) (alike v _ refl refl k)
     (by-choice SmallWorks (eqb n 7)
-    (by-choice SmallWorks (FIFORST x) (record { room = omega arith; over = λ o. not-set o }) (alike v _ refl refl k))
+    (by-choice SmallWorks (FIFORST x) (record { room = omega arith; over = λ o. never o }) (alike v _ refl refl k))
     (by-choice SmallWorks (eqb n 9) (alike v _ refl refl k) k)))
 
 small-works : (v : View) (ev : Event) → SmallWorks v → SmallWorks (smallStep v ev)

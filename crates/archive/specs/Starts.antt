@@ -5,20 +5,21 @@ use mathlib.Core.Bool.{Bool, true, false, true≢false}
 use mathlib.Core.List.{List, [], _∷_}
 use mathlib.Core.Path.{_≡_, refl, sym, _∙_, ap, subst}
 use native.Mathlib.Omega.{arith}
-use Rattle.board.specs.declared.Answer.the-variants.{Done, Byte}
-use Rattle.board.specs.declared.Event.the-variants as event
-use Rattle.collector.specs.declared.Access.{Access}
-use Rattle.collector.specs.declared.Access.the-variants.{WriteByte, ReadByte, ReadWord, NoAccess}
-use Rattle.collector.specs.declared.Collector.{Collector}
-use Rattle.collector.specs.declared.Settings.{Settings}
-use Rattle.collector.specs.declared.Taken.{Taken}
-use Rattle.collector.specs.declared.Phase.{Phase}
-use Rattle.collector.specs.declared.Phase.the-variants.{Stop, Poll, Range, Clear, Low, High, Go, Look, Take, Drain, Stuck, Unknown}
-use Rattle.collector.specs.Settings.{clockByte}
-use Rattle.collector.specs.Phases.{phaseOf, accessIn}
-use Rattle.collector.specs.Answers.{wide, STS}
-use Rattle.collector.specs.Fit.{FitCollector}
-use Rattle.collector.specs.Reply.{accessOf, replied}
+use Rattle.events.specs.declared.Answer.the-variants.{Done, Byte}
+use Rattle.events.specs.declared.Event.the-variants as event
+use Rattle.collector_phases.specs.declared.Access.{Access}
+use Rattle.collector_phases.specs.declared.Access.the-variants.{WriteByte, ReadByte, ReadWord, NoAccess}
+use Rattle.collector_phases.specs.declared.Collector.{Collector}
+use Rattle.collector_settings.specs.declared.Settings.{Settings}
+use Rattle.collector_steps.specs.declared.Taken.{Taken}
+use Rattle.collector_phases.specs.declared.Phase.{Phase}
+use Rattle.collector_phases.specs.declared.Phase.the-variants.{Stop, Poll, Range, Clear, Low, High, Go, Look, Take, Drain, Stuck, Unknown}
+use Rattle.collector_settings.specs.Settings.{clockByte}
+use Rattle.collector_phases.specs.Phases.{phaseOf, accessIn}
+use Rattle.collector_answers.specs.Answers.{wide, STS}
+use Rattle.collector_phases.specs.Fit.{FitCollector}
+use Rattle.collector_phases.specs.Accesses.{accessOf}
+use Rattle.collector_replies.specs.Reply.{replied}
 use Rattle.collector.specs.Handed.{samplesOf, gapMarked}
 use Rattle.collector.specs.Steps.{Step, access-fit}
 use Rattle.collector.specs.Steps.{stopped, poll-wide, poll-free, poll-again, poll-last, ranged, cleared, lowered, raised, went, stands}

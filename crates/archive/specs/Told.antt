@@ -5,15 +5,15 @@ use mathlib.Core.Path.{_≡_, refl, sym, _∙_, ap}
 use native.Mathlib.Omega.{arith}
 use lib.Dec.{eqb}
 use Rattle.base.specs.Choice.{if_then_else_}
-use Rattle.collector.specs.declared.Access.{Access}
-use Rattle.collector.specs.declared.Access.the-variants.{WriteByte, ReadByte, ReadWord, NoAccess}
-use Rattle.collector.specs.declared.Collector.{Collector}
-use Rattle.collector.specs.declared.Settings.{Settings}
-use Rattle.collector.specs.declared.Phase.{Phase}
-use Rattle.collector.specs.declared.Phase.the-variants.{Stop, Poll, Range, Clear, Low, High, Go, Look, Take, Drain, Stuck, Unknown}
-use Rattle.collector.specs.Phases.{phaseOf, accessIn}
-use Rattle.collector.specs.Fit.{FitCollector}
-use Rattle.collector.specs.Reply.{accessOf}
+use Rattle.collector_phases.specs.declared.Access.{Access}
+use Rattle.collector_phases.specs.declared.Access.the-variants.{WriteByte, ReadByte, ReadWord, NoAccess}
+use Rattle.collector_phases.specs.declared.Collector.{Collector}
+use Rattle.collector_settings.specs.declared.Settings.{Settings}
+use Rattle.collector_phases.specs.declared.Phase.{Phase}
+use Rattle.collector_phases.specs.declared.Phase.the-variants.{Stop, Poll, Range, Clear, Low, High, Go, Look, Take, Drain, Stuck, Unknown}
+use Rattle.collector_phases.specs.Phases.{phaseOf, accessIn}
+use Rattle.collector_phases.specs.Fit.{FitCollector}
+use Rattle.collector_phases.specs.Accesses.{accessOf}
 use Rattle.collector.specs.Steps.{access-fit}
 
 -- ---- accesses, told apart by a number

@@ -3,10 +3,10 @@ use Prim.Native.Nat.{ℕ, zero, suc, _%_}
 use mathlib.Core.Path.{_≡_, refl}
 use native.Mathlib.Omega.{arith}
 use lib.IntN.{pos}
-use Rattle.collector.specs.declared.Settings.{Settings}
-use Rattle.collector.specs.declared.Started.the-variants.{Begun}
-use Rattle.collector.specs.Settings.{startRefusal}
-use Rattle.collector.specs.Reply.{begun, started}
+use Rattle.collector_settings.specs.declared.Settings.{Settings}
+use Rattle.collector_records.specs.declared.Started.the-variants.{Begun}
+use Rattle.collector_settings.specs.Settings.{startRefusal}
+use Rattle.collector_records.specs.Records.{begun, started}
 use Rattle.turns.specs.Machine.{Machine}
 use Rattle.archive.specs.World.{World, conversion-end, din-pins}
 use Rattle.archive.specs.Run.{turn, world, Run, begin, _▸_, System}

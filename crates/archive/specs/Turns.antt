@@ -1,45 +1,26 @@
 -- The collector's turn keeps what holds in each phase. Assumes nothing.
-use Prim.Native.Nat.{ℕ, suc, _+_, _-_, _≤_, _<_}
-use mathlib.Core.Bool.{Bool, true, false, _&&_, _||_, true≢false}
-use mathlib.Core.List.{List, [], _∷_, _++_, IsPrefix, append-assoc, append-nil}
+use Prim.Native.Nat.{ℕ, _+_, _-_, _≤_, _<_}
+use mathlib.Core.Bool.{false}
+use mathlib.Core.List.{List, [], _∷_, _++_, append-assoc, append-nil}
 use mathlib.Core.Option.{Option, none, some}
-use mathlib.Core.Path.{_≡_, refl, sym, _∙_, ap, subst}
+use mathlib.Core.Path.{_≡_, refl, sym, _∙_, ap}
 use native.Mathlib.Omega.{arith}
-use borrow.Author.Tests.{leb-true, leb-false}
-use lib.IntN.{ℤ}
-use lib.Dec.{eqb, leb}
-use lib.ListN.{length, length-append}
-use Rattle.base.specs.Choice.{if_then_else_}
-use Rattle.converter.specs.Codes.{sampleOf, codeOf}
-use Rattle.board.specs.declared.Answer.the-variants.{Done, Byte, Word}
-use Rattle.board.specs.declared.Event.the-variants as event
-use Rattle.collector.specs.declared.Access.{Access}
-use Rattle.collector.specs.declared.Access.the-variants.{WriteByte, ReadByte, ReadWord, NoAccess}
-use Rattle.collector.specs.declared.Collector.{Collector}
-use Rattle.collector.specs.declared.Settings.{Settings}
-use Rattle.collector.specs.declared.Sample.{Sample}
-use Rattle.collector.specs.declared.Taken.{Taken}
-use Rattle.collector.specs.declared.Phase.{Phase}
-use Rattle.collector.specs.declared.Phase.the-variants.{Stop, Poll, Range, Clear, Low, High, Go, Look, Take, Drain, Stuck, Unknown}
-use Rattle.collector.specs.Settings.{clockByte}
-use Rattle.collector.specs.Phases.{phaseOf, accessIn}
-use Rattle.collector.specs.Answers.{STS, EF, isFull, sampleAt}
-use Rattle.collector.specs.Fit.{FitSettings, FitCollector}
-use Rattle.collector.specs.Reply.{accessOf, replied}
-use Rattle.collector.specs.Handed.{samplesOf, gapMarked}
-use Rattle.collector.specs.Steps.{Step, step, access-fit}
-use Rattle.collector.specs.Steps.{stopped, poll-wide, poll-free, poll-again, poll-last, ranged, cleared, lowered, raised, went}
-use Rattle.collector.specs.Steps.{look-wide, look-contradicts, look-empty, look-full, look-few, taken, drained, closed, stands}
-use Rattle.collector.specs.Kept.{replied-fit}
-use Rattle.turns.specs.Machine.{View, Machine}
-use Rattle.turns.specs.Turn.{Turning, eventOf, turnBy}
-use Rattle.turns.specs.Real.{words}
-use Rattle.archive.specs.Log.{Log, isGo, stretch, noteTurn, bringsBy, beginsBy, selected}
-use Rattle.archive.specs.Laws.{Laws, Serves, clocked, leaving}
+use Rattle.events.specs.declared.Answer.the-variants.{Done, Byte, Word}
+use Rattle.events.specs.declared.Event.the-variants as event
+use lib.ListN.{length}
+use Rattle.converter.specs.Codes.{sampleOf}
+use Rattle.collector_phases.specs.declared.Access.{Access}
+use Rattle.collector_settings.specs.declared.Settings.{Settings}
+use Rattle.collector_answers.specs.declared.Sample.{Sample}
+use Rattle.collector_answers.specs.Answers.{sampleAt}
+use Rattle.collector.specs.Handed.{isGo}
+use Rattle.turns.specs.Machine.{View}
+use Rattle.archive.specs.Log.{Log, stretch, noteTurn}
+use Rattle.archive.specs.Laws.{leaving}
 use Rattle.archive.specs.Chain.{follows, Chain, snoc}
-use Rattle.archive.specs.Phases.{wordsOf, length-words, Sixteen, Any, Idle, Quiet, Running, Queue, Loss, no-loss, was-full, Looking, Taking, Draining, Fact, FactOf}
+use Rattle.archive.specs.Phases.{wordsOf, length-words, Sixteen, Any, Idle, Quiet, Running, Queue, Loss, no-loss, was-full, Looking, Taking, Draining}
 use Rattle.archive.specs.Ends.{queue-relog}
-use Rattle.archive.specs.Sights.{n, status, no-contradiction, shows-none, shows-some, shows-all, shows-few}
+use Rattle.archive.specs.Sights.{n}
 
 -- ---- a turn at which nothing is handed over changes the log in `waiting` alone
 abbrev pub rewaiting : Log → Option ℕ → Log
@@ -139,8 +120,3 @@ pub oldest-of : (next : ℕ) (t : Settings) (m : ℕ) (Q : List Sample) (X h : L
     → Oldest next t m Q X h
 oldest-of next t m [] X h a e c = absurd (omega arith)
 oldest-of next t m (y ∷ Q) X h a e c = record { y = y; rest = Q; cut = refl; whole = e; sampled = rw (c .1, ← c .0) }
-
--- 9←02 and 9←03 end a start
-pub is-go : (external : Bool) → (eqb (if external then 2 else 3) 2 || eqb (if external then 2 else 3) 3) ≡ true
-is-go true = refl
-is-go false = refl

@@ -6,32 +6,24 @@ use mathlib.Core.Option.{Option, none, some}
 use mathlib.Core.Path.{_≡_, refl, sym, _∙_, ap}
 use lib.IntN.{ℤ}
 use Rattle.base.specs.Choice.{if_then_else_}
+use Rattle.base.specs.Laws.{both}
 use Rattle.converter.specs.Channels.{started, idle, endStarts}
 use Rattle.converter.specs.Codes.{sampleOf, codeOf}
-use Rattle.collector.specs.declared.Settings.{Settings}
-use Rattle.collector.specs.declared.Sample.{Sample}
-use Rattle.collector.specs.declared.Phase.{Phase}
-use Rattle.collector.specs.declared.Phase.the-variants.{Stop, Poll, Range, Clear, Low, High, Go, Look, Take, Drain, Stuck, Unknown}
-use Rattle.collector.specs.Fit.{FitSettings}
+use Rattle.collector_settings.specs.declared.Settings.{Settings}
+use Rattle.collector_answers.specs.declared.Sample.{Sample}
+use Rattle.collector_phases.specs.declared.Phase.{Phase}
+use Rattle.collector_phases.specs.declared.Phase.the-variants.{Stop, Poll, Range, Clear, Low, High, Go, Look, Take, Drain, Stuck, Unknown}
+use Rattle.collector_phases.specs.Fit.{FitSettings}
 use Rattle.turns.specs.Machine.{View}
 use Rattle.archive.specs.Log.{Log, addSample, counted, atMostOne, noteWorld}
 use Rattle.archive.specs.Laws.{starting, ending, Happens, quiet, trigger, end}
 use Rattle.archive.specs.Phases.{Idle, Quiet, Running, Looking, Taking, Draining, Fact}
 use Rattle.archive.specs.Ends.{settled, queue-begin, queue-relog, look-end, take-end, drain-end}
 
--- ---- the parts of `within`
-and-first : (a b : Bool) → a && b ≡ true → a ≡ true
-and-first true b h = refl
-and-first false b h = h
-
-and-second : (a b : Bool) → a && b ≡ true → b ≡ true
-and-second true b h = h
-and-second false b h = absurd (true≢false (sym h))
-
 -- ---- what does not depend on the samples
 pub idle-world : (e : Option ℤ) (begins : Bool) (ch : ℕ) (l : Log) → Idle l → Idle (noteWorld e begins ch l)
 idle-world e begins ch l i =
-    record { prefix = λ w. go e (l .current) (i .prefix (and-first (l .within) (atMostOne (counted e (l .waiting))) w)); since = i .since; runs = i .runs }
+    record { prefix = λ w. go e (l .current) (i .prefix (both (l .within) (atMostOne (counted e (l .waiting))) w .0)); since = i .since; runs = i .runs }
   where
     go : (e : Option ℤ) (k : Option ℕ) → IsPrefix (l .handed) (l .samples) → IsPrefix (l .handed) (addSample e k (l .samples))
     go none k p = p
@@ -96,7 +88,7 @@ module _ (t : Settings) (next left : ℕ) (f : FitSettings t) (v : View) (l : Lo
   l′ = noteWorld e begins ch l
 
   was-within : l′ .within ≡ true → l .within ≡ true
-  was-within w = and-first (l .within) (atMostOne (counted e (l .waiting))) w
+  was-within w = both (l .within) (atMostOne (counted e (l .waiting))) w .0
 
   looking : Looking t next v l → l′ .within ≡ true → Looking t next v′ l′
   unfolding by-event requieted
@@ -128,7 +120,7 @@ module _ (t : Settings) (next left : ℕ) (f : FitSettings t) (v : View) (l : Lo
         waits = k .waits;
         few = k .few;
       })
-      (λ code s b w. take-end t next v l code ch s b (and-second (l .within) (atMostOne (counted (some code) (l .waiting))) w) k) begins e v′ h
+      (λ code s b w. take-end t next v l code ch s b (both (l .within) (atMostOne (counted (some code) (l .waiting))) w .1) k) begins e v′ h
 
   draining : Draining left t next v l → l′ .within ≡ true → Draining left t next v′ l′
   unfolding by-event requieted

@@ -14,13 +14,15 @@ use Rattle.converter.specs.Registers.{freshConverter}
 use Rattle.converter.specs.Working.{WorkingConverter, fresh-works}
 use Rattle.converter.specs.declared.channels.Converter.{Converter}
 use Rattle.board.specs.Held.{Held, answered, happened}
-use Rattle.collector.specs.declared.Access.the-variants.{WriteByte, NoAccess}
-use Rattle.collector.specs.declared.Collector.{Collector}
-use Rattle.collector.specs.declared.Phase.the-variants.{Poll, Take}
-use Rattle.collector.specs.declared.Sample.{Sample}
-use Rattle.collector.specs.declared.Taken.{Taken}
-use Rattle.collector.specs.Phases.{number}
-use Rattle.collector.specs.Reply.{begun, accessOf, replied}
+use Rattle.collector_phases.specs.declared.Access.the-variants.{WriteByte, NoAccess}
+use Rattle.collector_phases.specs.declared.Collector.{Collector}
+use Rattle.collector_phases.specs.declared.Phase.the-variants.{Poll, Take}
+use Rattle.collector_answers.specs.declared.Sample.{Sample}
+use Rattle.collector_steps.specs.declared.Taken.{Taken}
+use Rattle.collector_phases.specs.Phases.{number}
+use Rattle.collector_records.specs.Records.{begun}
+use Rattle.collector_phases.specs.Accesses.{accessOf}
+use Rattle.collector_replies.specs.Reply.{replied}
 use Rattle.turns.specs.Machine.{Machine, Host}
 use Rattle.turns.specs.Real.{real, words}
 use Rattle.archive.specs.Run.{turn, world, Run, _▸_}

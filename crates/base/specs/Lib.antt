@@ -4,3 +4,4 @@ pub mod Tests
 pub mod Laws
 pub mod Weights
 pub mod Checks
+pub mod Unrefused

@@ -2,8 +2,7 @@
 use mathlib.Core.Path.{_≡_, refl}
 use mathlib.Core.Bool.{Bool, true, false, _&&_}
 use mathlib.Core.List.{List, [], _∷_}
-use Prim.Native.Nat.{ℕ}
-use native.Mathlib.Omega.{arith}
+use Rattle.base.specs.Laws.{never, both}
 
 abbrev pub row : Bool → List Bool → Bool
 row a [] = a
@@ -18,17 +17,12 @@ abbrev pub Each : List Bool → Type 0
 Each [] = Unit {0}
 Each (x ∷ xs) = (x ≡ true) × Each xs
 
-and-left : (a b : Bool) → a && b ≡ true → a ≡ true
-and-left true b h = refl
-and-left false b h = h
-
-and-right : (a b : Bool) → a && b ≡ true → b ≡ true
-and-right true b h = h
-and-right false b h = cc
-
 row-each : (a : Bool) (l : List Bool) → row a l ≡ true → (a ≡ true) × Each l
 row-each a [] h = (h, tt)
-row-each a (x ∷ xs) h = let r = row-each (a && x) xs h in (and-left a x (r .0), (and-right a x (r .0), r .1))
+row-each a (x ∷ xs) h =
+    let r = row-each (a && x) xs h in
+    let t = both a x (r .0) in
+    (t .0, (t .1, r .1))
 
 -- where all hold, each holds
 pub each : (l : List Bool) → all l ≡ true → Each l
@@ -38,7 +32,7 @@ each (x ∷ xs) h = row-each x xs h
 each-row : (a : Bool) (l : List Bool) → a ≡ true → Each l → row a l ≡ true
 each-row a [] p q = p
 each-row true (x ∷ xs) p q = each-row x xs (q .0) (q .1)
-each-row false (x ∷ xs) p q = absurd (let z : _≡_ {A = ℕ} 0 1 = cc in omega arith)
+each-row false (x ∷ xs) p q = never p
 
 -- where each holds, all hold
 pub every : (l : List Bool) → Each l → all l ≡ true

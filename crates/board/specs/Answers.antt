@@ -1,4 +1,4 @@
--- The answer in the specification's numbers: the number that an event is refused by, and the value that comes back.
+-- The answer of a step in the specification's numbers: the number that it is refused by, and the value that comes back.
 use Prim.Native.Nat.{ℕ}
 use mathlib.Core.Path.{_≡_, refl, sym, _∙_}
 use mathlib.Core.Bool.{Bool, true, false}
@@ -6,27 +6,16 @@ use mathlib.Core.List.{List}
 use borrow.Author.Tests.{eqb-true}
 use lib.Dec.{eqb}
 use Rattle.base.specs.Choice.{if_then_else_}
+use Rattle.fifo.specs.Samples.{oldestOf}
+use Rattle.fifo.specs.Queue.{queue}
 use Rattle.machine.specs.declared.Board.{Board}
-use Rattle.board.specs.Act.{acted}
+use Rattle.bus.specs.Place.{placeOf}
+use Rattle.bus_read.specs.Read.{byteAt}
+use Rattle.board_act.specs.Act.{acted}
 use Rattle.board.specs.Step.{ran, ranFrom, number, refusedBy, stepOf}
-use Rattle.board.specs.declared.Answer.{Answer}
-use Rattle.board.specs.declared.Answer.the-variants.{Done, Byte, Word, Refused}
-use Rattle.board.specs.declared.Event.{Event}
-use Rattle.board.specs.declared.Event.the-variants.{WriteByte, ReadByte, ReadWord, ConversionEnd, DinPins, LatchLevel, PortPins, Tick, TransferEnd}
-
--- 0 where the event is not refused
-abbrev pub refusalNumber : Answer → ℕ
-refusalNumber Done = 0
-refusalNumber (Byte value) = 0
-refusalNumber (Word value) = 0
-refusalNumber (Refused number) = number
-
--- what a read brings; 0 where nothing comes back
-abbrev pub valueRead : Answer → ℕ
-valueRead Done = 0
-valueRead (Byte value) = value
-valueRead (Word value) = value
-valueRead (Refused number) = 0
+use Rattle.events.specs.Answers.{refusalNumber, valueRead}
+use Rattle.events.specs.declared.Event.{Event}
+use Rattle.events.specs.declared.Event.the-variants.{WriteByte, ReadByte, ReadWord, ConversionEnd, DinPins, LatchLevel, PortPins, Tick, TransferEnd}
 
 acted-answer : (b : Board) (o : ℕ) (e : List ℕ) (ev : Event) → refusalNumber (acted b o e ev .answer) ≡ 0
 unfolding acted
@@ -40,7 +29,7 @@ acted-answer b o e (PortPins q v) = refl
 acted-answer b o e Tick = refl
 acted-answer b o e TransferEnd = refl
 
--- the number that a step answers is that of the first check that holds, and it is refused exactly where one does
+-- the number that a step answers is that of the first check that holds, 0 where none does
 pub answer-number : (b : Board) (memory eeprom : List ℕ) (ev : Event)
     → refusalNumber (stepOf b memory eeprom ev .answer) ≡ number b memory eeprom ev
 unfolding stepOf ran
@@ -53,3 +42,42 @@ answer-number b memory eeprom ev = by (eqb (number b memory eeprom ev) 0) refl
         ≡ number b memory eeprom ev
     by true h = acted-answer b _ eeprom ev ∙ sym (eqb-true _ _ h)
     by false h = refl
+
+-- what an event that is not refused brings, the samples held being these: a read the byte of its place, a word read the oldest sample
+unfoldable pub valueBrought : Board → List ℕ → Event → ℕ
+valueBrought b samples (WriteByte offset value) = 0
+valueBrought b samples (ReadByte offset) = byteAt b (oldestOf samples) (placeOf (b .registers .page) offset)
+valueBrought b samples (ReadWord offset) = oldestOf samples
+valueBrought b samples (ConversionEnd code) = 0
+valueBrought b samples (DinPins d) = 0
+valueBrought b samples (LatchLevel high) = 0
+valueBrought b samples (PortPins q v) = 0
+valueBrought b samples Tick = 0
+valueBrought b samples TransferEnd = 0
+
+acted-value : (b : Board) (samples e : List ℕ) (ev : Event) → valueRead (acted b (oldestOf samples) e ev .answer) ≡ valueBrought b samples ev
+unfolding acted valueBrought
+acted-value b samples e (WriteByte n v) = refl
+acted-value b samples e (ReadByte n) = refl
+acted-value b samples e (ReadWord n) = refl
+acted-value b samples e (ConversionEnd code) = refl
+acted-value b samples e (DinPins d) = refl
+acted-value b samples e (LatchLevel high) = refl
+acted-value b samples e (PortPins q v) = refl
+acted-value b samples e Tick = refl
+acted-value b samples e TransferEnd = refl
+
+-- the value that a step answers is what the event brings, and 0 where it is refused
+pub answer-value : (b : Board) (memory eeprom : List ℕ) (ev : Event)
+    → valueRead (stepOf b memory eeprom ev .answer)
+    ≡ (if eqb (number b memory eeprom ev) 0 then valueBrought b (queue (b .fifo) memory) ev else 0)
+unfolding stepOf ran
+answer-value b memory eeprom ev = by (eqb (number b memory eeprom ev) 0)
+  where
+    by : (t : Bool)
+        → valueRead
+        ((if t then record { board = ranFrom b memory eeprom ev .board; answer = ranFrom b memory eeprom ev .answer }
+        else refusedBy b (number b memory eeprom ev)) .answer)
+        ≡ (if t then valueBrought b (queue (b .fifo) memory) ev else 0)
+    by true = acted-value b (queue (b .fifo) memory) eeprom ev
+    by false = refl

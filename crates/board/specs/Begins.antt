@@ -1,15 +1,19 @@
--- Which events begin a conversion, and on which channel; which end one, and how. From the specification's trigger rules ("Conversions, edges and
+-- Which events begin a conversion, and on which channel; which end one, and how; which abandon one. From the specification's trigger rules ("Conversions, edges and
 -- requests"), over the board before the event and an event that it does not refuse. A conversion that begins is of the selected channel.
 use Prim.Native.Nat.{ℕ}
-use mathlib.Core.Bool.{Bool, true, false, not}
-use lib.Dec.{ltb}
+use mathlib.Core.Bool.{Bool, true, false, _&&_}
+use lib.Dec.{eqb, ltb}
+use mathlib.Core.Bool.{Bool, true, false}
+use mathlib.Core.Option.{Option, none, some}
+use lib.IntN.{ℤ}
 use Rattle.converter.specs.Channels.{endStarts}
 use Rattle.converter.specs.Begins.{softwareStarts, clockStarts, startsOn}
-use Rattle.timer.specs.Timer.{out, fell, clockedIf, countWritten, controlWritten}
+use Rattle.timer.specs.Timer.{out, fell, clockedIf}
+use Rattle.timer_bus.specs.Bus.{countWritten, controlWritten}
 use Rattle.timer.specs.declared.Timer.{Timer}
 use Rattle.timer.specs.declared.Select.the-variants.{Counter1, Counter2}
-use Rattle.timer.specs.declared.Written.{Written}
-use Rattle.timer.specs.declared.Written.the-variants.{Accepted, Refused}
+use Rattle.timer_bus.specs.declared.Written.{Written}
+use Rattle.timer_bus.specs.declared.Written.the-variants.{Accepted, Refused}
 use Rattle.machine_clock.specs.Clock.{gates}
 use Rattle.machine_tick.specs.Tick.{clock1, dividersTicked, counter0Ticked}
 use Rattle.machine_pins.specs.Pins.{fellFrom, dinMoved, triggersStopped}
@@ -20,8 +24,8 @@ use Rattle.bus.specs.declared.Place.{Place}
 use Rattle.bus.specs.declared.Place.the-variants.{Start, Digital, LowChannel, HighChannel, DacLeast, DacMost, Depth, FifoControl}
 use Rattle.bus.specs.declared.Place.the-variants.{Miscellaneous, Operation, CounterControl, Analog, Count, ControlWord, PortData, PortControl}
 use Rattle.bus.specs.declared.Place.the-variants.{Reserved, Auxiliary, CalData, CalAddress, CalCommand, CalKey, Outside}
-use Rattle.board.specs.declared.Event.{Event}
-use Rattle.board.specs.declared.Event.the-variants.{WriteByte, ReadByte, ReadWord, ConversionEnd, DinPins, LatchLevel, PortPins, Tick, TransferEnd}
+use Rattle.events.specs.declared.Event.{Event}
+use Rattle.events.specs.declared.Event.the-variants.{WriteByte, ReadByte, ReadWord, ConversionEnd, DinPins, LatchLevel, PortPins, Tick, TransferEnd}
 
 -- the timer goes to t: with CLKEN and CLKSEL = 1 a falling OUT2 is a trigger
 abbrev pub timerBegins : Board → Timer → Bool
@@ -82,55 +86,42 @@ begins b TransferEnd = false
 abbrev pub beginsOn : Board → ℕ
 beginsOn b = startsOn (b .converter)
 
+-- the code that a conversion ends with, where the event ends one
+abbrev pub codeIn : Event → Option ℤ
+codeIn (WriteByte offset value) = none
+codeIn (ReadByte offset) = none
+codeIn (ReadWord offset) = none
+codeIn (ConversionEnd code) = some code
+codeIn (DinPins d) = none
+codeIn (LatchLevel high) = none
+codeIn (PortPins q v) = none
+codeIn Tick = none
+codeIn TransferEnd = none
+
+abbrev there : Option ℤ → Bool
+there none = false
+there (some code) = true
+
 -- an event that ends a conversion
 unfoldable pub ends : Event → Bool
-ends (WriteByte offset value) = false
-ends (ReadByte offset) = false
-ends (ReadWord offset) = false
-ends (ConversionEnd code) = true
-ends (DinPins d) = false
-ends (LatchLevel high) = false
-ends (PortPins q v) = false
-ends Tick = false
-ends TransferEnd = false
+ends ev = there (codeIn ev)
 
 -- how it ends: "An end with 512 held loses the new sample"
 abbrev pub keeps : Board → Bool
 keeps b = ltb (b .fifo .held) 512
 
--- a reset abandons a conversion
-abbrev pub writeAbandons : Place → ℕ → Bool
-writeAbandons Start v = false
-writeAbandons Digital v = false
-writeAbandons LowChannel v = false
-writeAbandons HighChannel v = false
-writeAbandons DacLeast v = false
-writeAbandons DacMost v = false
-writeAbandons Depth v = false
-writeAbandons FifoControl v = false
-writeAbandons Miscellaneous v = isReset v
-writeAbandons Operation v = false
-writeAbandons CounterControl v = false
-writeAbandons Analog v = false
-writeAbandons (Count s) v = false
-writeAbandons ControlWord v = false
-writeAbandons (PortData q) v = false
-writeAbandons PortControl v = false
-writeAbandons Reserved v = false
-writeAbandons Auxiliary v = false
-writeAbandons CalData v = false
-writeAbandons CalAddress v = false
-writeAbandons CalCommand v = false
-writeAbandons CalKey v = false
-writeAbandons Outside v = false
+-- "8 write: RESETA bit 5, RESETD bit 4"
+unfoldable pub resets : Event → Bool
+resets (WriteByte offset value) = eqb offset 8 && isReset value
+resets (ReadByte offset) = false
+resets (ReadWord offset) = false
+resets (ConversionEnd code) = false
+resets (DinPins d) = false
+resets (LatchLevel high) = false
+resets (PortPins q v) = false
+resets Tick = false
+resets TransferEnd = false
 
-unfoldable pub abandons : Board → Event → Bool
-abandons b (WriteByte offset value) = writeAbandons (placeOf (b .registers .page) offset) value
-abandons b (ReadByte offset) = false
-abandons b (ReadWord offset) = false
-abandons b (ConversionEnd code) = false
-abandons b (DinPins d) = false
-abandons b (LatchLevel high) = false
-abandons b (PortPins q v) = false
-abandons b Tick = false
-abandons b TransferEnd = false
+-- "A reset ... abandons conversion": the one in progress
+abbrev pub abandons : Board → Event → Bool
+abandons b event = b .converter .converting && resets event

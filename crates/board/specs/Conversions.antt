@@ -1,21 +1,21 @@
--- A step begins, ends, abandons or leaves a conversion just as `begins`, `ends` and `abandons` say.
+-- An event begins a conversion, ends one, or leaves whether one runs, just as `begins`, `ends` and `resets` say.
 use Prim.Native.Nat.{ℕ}
 use mathlib.Core.Path.{_≡_, refl, sym, ap, _∙_}
 use mathlib.Core.Bool.{Bool, true, false, not, _&&_, _||_}
 use mathlib.Core.List.{List}
-use native.Mathlib.Omega.{arith}
 use Rattle.base.specs.Choice.{if_then_else_}
 use Rattle.base.specs.Fields.{bit}
-use Rattle.base.specs.Laws.{by-choice}
+use Rattle.base.specs.Laws.{by-choice, never}
 use Rattle.converter.specs.Channels.{started, idle, triggered, softwareTrigger, clockTrigger, clockTriggered, endStarts, ended}
 use Rattle.converter.specs.Begins.{trigger-begins, trigger-lost, end-begins, end-over}
 use Rattle.converter.specs.declared.channels.Converter.{Converter}
-use Rattle.timer.specs.Timer.{out, fell, put, cascaded, moved, clockedIf, countWritten, controlWritten}
+use Rattle.timer.specs.Timer.{out, fell, put, cascaded, moved, clockedIf}
+use Rattle.timer_bus.specs.Bus.{countWritten, controlWritten}
 use Rattle.timer.specs.declared.Timer.{Timer}
 use Rattle.timer.specs.declared.Gates.{Gates}
 use Rattle.timer.specs.declared.Select.the-variants.{Counter0, Counter1, Counter2}
-use Rattle.timer.specs.declared.Written.{Written}
-use Rattle.timer.specs.declared.Written.the-variants.{Accepted, Refused}
+use Rattle.timer_bus.specs.declared.Written.{Written}
+use Rattle.timer_bus.specs.declared.Written.the-variants.{Accepted, Refused}
 use Rattle.machine_clock.specs.Clock.{gates, turned, turnedBy, countingWritten}
 use Rattle.machine_tick.specs.Tick.{clock0, clock1, dividersTicked, counter0Ticked, counter1Ticked, outputsTicked, ticked}
 use Rattle.machine_pins.specs.Pins.{fellFrom, dinMoved, din0Clocked, triggersStopped, din3Triggered, dinSet, latchSet, portSet}
@@ -28,13 +28,11 @@ use Rattle.bus.specs.declared.Place.{Place}
 use Rattle.bus.specs.declared.Place.the-variants.{Start, Digital, LowChannel, HighChannel, DacLeast, DacMost, Depth, FifoControl}
 use Rattle.bus.specs.declared.Place.the-variants.{Miscellaneous, Operation, CounterControl, Analog, Count, ControlWord, PortData, PortControl}
 use Rattle.bus.specs.declared.Place.the-variants.{Reserved, Auxiliary, CalData, CalAddress, CalCommand, CalKey, Outside}
-use Rattle.board.specs.Act.{acted}
-use Rattle.board.specs.Begins.{timerBegins, writtenBegins, writeBegins, dinBegins, tickBegins, begins, ends, writeAbandons, abandons}
-use Rattle.board.specs.declared.Event.{Event}
-use Rattle.board.specs.declared.Event.the-variants.{WriteByte, ReadByte, ReadWord, ConversionEnd, DinPins, LatchLevel, PortPins, Tick, TransferEnd}
-
-never : {A : Type 0} → false ≡ true → A
-never h = absurd (let z : _≡_ {A = ℕ} 0 1 = cc in omega arith)
+use Rattle.board_act.specs.Act.{acted}
+use Rattle.board.specs.Resets.{placeResets, place-resets}
+use Rattle.board.specs.Begins.{timerBegins, writtenBegins, writeBegins, dinBegins, tickBegins, begins, ends, resets}
+use Rattle.events.specs.declared.Event.{Event}
+use Rattle.events.specs.declared.Event.the-variants.{WriteByte, ReadByte, ReadWord, ConversionEnd, DinPins, LatchLevel, PortPins, Tick, TransferEnd}
 
 -- ---- a clock of counter 0 moves no OUT2, and no edge is no trigger
 no-fall : (o : Bool) → fell o o ≡ false
@@ -66,7 +64,7 @@ din0-same b n fallen = turned-same _ _ (out2-stays _ _ _)
 
 -- ---- what begins a conversion starts it on the selected channel
 -- the trigger by a timer that goes to t
-abbrev out2Trigger : Board → Timer → Bool
+abbrev pub out2Trigger : Board → Timer → Bool
 out2Trigger b t = clockTrigger (b .converter) (b .requests .clksel) (fell (out (b .clocks .timer) Counter2) (out t Counter2)) false false
 
 written-begun : (b : Board) (w : Written) → writtenBegins b w ≡ true → turnedBy b w .converter ≡ started (b .converter)
@@ -110,7 +108,7 @@ din-triggered b n =
     (din0-same b n (fellFrom (b .pins .din) n 1))
 
 -- the timer after the tick of counter 1, and what it makes of the converter
-abbrev clocked1 : Board → Timer
+abbrev pub clocked1 : Board → Timer
 clocked1 c = clockedIf (c .clocks .timer) Counter1 (gates c) (clock1 (c .registers) (c .clocks))
 
 tick-begun : (b : Board) → tickBegins b ≡ true → ticked b .converter ≡ started (b .converter)
@@ -125,7 +123,7 @@ tick-lost b h =
     let c = counter0Ticked (dividersTicked b) in
     trigger-lost (c .converter) (out2Trigger c (clocked1 c)) h ∙ counter0-same b
 
-abbrev dinTrigger : Board → ℕ → Bool
+abbrev pub dinTrigger : Board → ℕ → Bool
 dinTrigger b n = clockTrigger (b .converter) (b .requests .clksel) false (fellFrom (b .pins .din) n 8) (triggersStopped (dinMoved b n))
 
 pub begun : (b : Board) (o : ℕ) (e : List ℕ) (ev : Event) → begins b ev ≡ true → acted b o e ev .board .converter ≡ started (b .converter)
@@ -174,7 +172,7 @@ misc-same : (b : Board) (v : ℕ) → isReset v ≡ false → miscWritten b v .c
 unfolding miscWritten requestsCleared pageSet
 misc-same b v h = rw h (by-choice (λ (c : Board). c .converter ≡ b .converter) (bit v 8) refl refl)
 
-write-same : (b : Board) (p : Place) (v : ℕ) → writeBegins b p v ≡ false → writeAbandons p v ≡ false
+write-same : (b : Board) (p : Place) (v : ℕ) → writeBegins b p v ≡ false → placeResets p v ≡ false
     → Same (b .converter) (writtenAt b p v .converter)
 unfolding writtenAt countingWritten
 write-same b Start v h k = equal _ _ (trigger-lost (b .converter) (softwareTrigger (b .converter)) h)
@@ -227,10 +225,10 @@ read-same b CalCommand = refl
 read-same b CalKey = refl
 read-same b Outside = refl
 
-pub same : (b : Board) (o : ℕ) (e : List ℕ) (ev : Event) → begins b ev ≡ false → ends ev ≡ false → abandons b ev ≡ false
+pub same : (b : Board) (o : ℕ) (e : List ℕ) (ev : Event) → begins b ev ≡ false → ends ev ≡ false → resets ev ≡ false
     → Same (b .converter) (acted b o e ev .board .converter)
-unfolding acted begins ends abandons latchSet portSet
-same b o e (WriteByte n v) h k a = write-same b (placeOf (b .registers .page) n) v h a
+unfolding acted begins ends resets latchSet portSet
+same b o e (WriteByte n v) h k a = write-same b (placeOf (b .registers .page) n) v h (place-resets (b .registers .page) n v ∙ a)
 same b o e (ReadByte n) h k a = equal _ _ (read-same b (placeOf (b .registers .page) n))
 same b o e (ReadWord n) h k a = alike (b .converter)
 same b o e (ConversionEnd code) h k a = never (sym k)

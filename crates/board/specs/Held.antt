@@ -11,14 +11,14 @@ use Rattle.base.specs.Choice.{if_then_else_}
 use Rattle.base.specs.Checks.{refusal}
 use Rattle.fifo.specs.Queue.{queue, layout}
 use Rattle.machine.specs.declared.Board.{Board}
-use Rattle.board.specs.Working.{workingBoard, WorkingBoard, board-to}
-use Rattle.board.specs.Refusals.{eventChecks, checks}
+use Rattle.board_refusal.specs.Working.{workingBoard, WorkingBoard, board-to}
+use Rattle.board_refusal.specs.Refusals.{eventChecks, checks}
 use Rattle.board.specs.Passed.{Passed}
 use Rattle.board.specs.Step.{Ran, ran, ranFrom, number, refusedBy, stepOf, memoryAfter, eepromAfter}
 use Rattle.board.specs.Kept.{ran-holds}
-use Rattle.board.specs.declared.Answer.{Answer}
-use Rattle.board.specs.declared.Answer.the-variants.{Refused}
-use Rattle.board.specs.declared.Event.{Event}
+use Rattle.events.specs.declared.Answer.{Answer}
+use Rattle.events.specs.declared.Answer.the-variants.{Refused}
+use Rattle.events.specs.declared.Event.{Event}
 
 pub record Held : Type 0 where
   pub board : Board

@@ -35,14 +35,14 @@ use Rattle.bus_write.specs.Kept.{written-works}
 use Rattle.bus_read.specs.Kept.{read-works}
 use Rattle.bus.specs.declared.Effect.{Effect}
 use Rattle.bus.specs.declared.Effect.the-variants.{Keep, Take, Store, Empty}
-use Rattle.board.specs.Working.{WorkingBoard}
-use Rattle.board.specs.Refusals.{eventChecks, checks}
+use Rattle.board_refusal.specs.Working.{WorkingBoard}
+use Rattle.board_refusal.specs.Refusals.{eventChecks, checks}
 use Rattle.board.specs.Passed.{Passed, passed, din-in-range}
-use Rattle.board.specs.Act.{acted, eepromActed}
+use Rattle.board_act.specs.Act.{acted, eepromActed}
 use Rattle.board.specs.Step.{samplesAfter, fifoAfter, ran, ranFrom, number, refusedBy, stepOf, memoryAfter, eepromAfter}
 use Rattle.board.specs.declared.Outcome.{Outcome}
-use Rattle.board.specs.declared.Event.{Event}
-use Rattle.board.specs.declared.Event.the-variants.{WriteByte, ReadByte, ReadWord, ConversionEnd, DinPins, LatchLevel, PortPins, Tick, TransferEnd}
+use Rattle.events.specs.declared.Event.{Event}
+use Rattle.events.specs.declared.Event.the-variants.{WriteByte, ReadByte, ReadWord, ConversionEnd, DinPins, LatchLevel, PortPins, Tick, TransferEnd}
 
 -- ---- the record
 pub acted-works : (b : Board) (o : ℕ) (e : List ℕ) (ev : Event) → WorkingMachine b → refusal (eventChecks b ev) ≡ 0

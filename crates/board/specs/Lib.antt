@@ -1,12 +1,10 @@
-pub mod Act
-pub mod Refusals
-pub mod Working
 pub mod Step
-pub mod Stores
 pub mod Passed
 pub mod Kept
 pub mod Held
 pub mod Begins
+pub mod Resets
 pub mod Conversions
+pub mod Abandoned
 pub mod Order
 pub mod Answers

@@ -1,12 +1,15 @@
 -- The check order. The specification, "Refusal numbers": "Check order: 2, 1, then 3 or 5, then 4 or 10, then 6, 9, 8, 7." Whatever the board, the
--- memories and the event, the checks stand in that order.
-use Prim.Native.Nat.{ℕ}
+-- memories and the event, the checks stand in that order, so a refusal is one of 1 to 10.
+use Prim.Native.Nat.{ℕ, _≤_}
 use mathlib.Core.Path.{_≡_, refl}
-use mathlib.Core.Bool.{Bool, true, not, _&&_}
+use mathlib.Core.Bool.{Bool, true, false, not, _&&_}
 use mathlib.Core.List.{List, [], _∷_}
-use lib.Dec.{eqb, ltb}
+use native.Mathlib.Omega.{arith}
+use borrow.Author.Tests.{ne-eqb, leb-true, leb-false, ltb-true}
+use lib.Dec.{eqb, ltb, leb}
 use Rattle.base.specs.Choice.{if_then_else_}
-use Rattle.base.specs.Checks.{Check, _refuses_}
+use Rattle.base.specs.Checks.{Check, _refuses_, refusal}
+use Rattle.base.specs.Laws.{choice-le, both}
 use Rattle.machine.specs.declared.Board.{Board}
 use Rattle.bus.specs.Place.{placeOf}
 use Rattle.bus_refusal.specs.Refusals.{writeChecks, readChecks}
@@ -14,10 +17,11 @@ use Rattle.bus.specs.declared.Place.{Place}
 use Rattle.bus.specs.declared.Place.the-variants.{Start, Digital, LowChannel, HighChannel, DacLeast, DacMost, Depth, FifoControl}
 use Rattle.bus.specs.declared.Place.the-variants.{Miscellaneous, Operation, CounterControl, Analog, Count, ControlWord, PortData, PortControl}
 use Rattle.bus.specs.declared.Place.the-variants.{Reserved, Auxiliary, CalData, CalAddress, CalCommand, CalKey, Outside}
-use Rattle.board.specs.Working.{workingBoard}
-use Rattle.board.specs.Refusals.{wrongLengths, eventChecks, checks}
-use Rattle.board.specs.declared.Event.{Event}
-use Rattle.board.specs.declared.Event.the-variants.{WriteByte, ReadByte, ReadWord, ConversionEnd, DinPins, LatchLevel, PortPins, Tick, TransferEnd}
+use Rattle.board_refusal.specs.Working.{workingBoard}
+use Rattle.board.specs.Step.{number}
+use Rattle.board_refusal.specs.Refusals.{eventChecks, checks}
+use Rattle.events.specs.declared.Event.{Event}
+use Rattle.events.specs.declared.Event.the-variants.{WriteByte, ReadByte, ReadWord, ConversionEnd, DinPins, LatchLevel, PortPins, Tick, TransferEnd}
 
 -- the place of a refusal number in the order
 abbrev pub rank : ℕ → ℕ
@@ -106,3 +110,35 @@ event-order b TransferEnd = refl
 pub check-order : (b : Board) (memory eeprom : List ℕ) (ev : Event) → ordered 0 (checks b memory eeprom ev) ≡ true
 unfolding checks
 check-order b memory eeprom ev = event-order b ev
+
+-- ---- only the numbers 1 to 10 have a place in the order, so an event is refused by no other
+listed : (n k : ℕ) → ltb n (rank k) ≡ true → k ≤ 10
+listed n k h = by (leb k 10) refl
+  where
+    by : (t : Bool) → leb k 10 ≡ t → k ≤ 10
+    by true l = leb-true k 10 l
+    by false l =
+        let g = leb-false k 10 l in
+        let none : rank k ≡ 0 =
+        rw (
+          ne-eqb k 2 (λ q. omega (arith, g, q)),
+          ne-eqb k 1 (λ q. omega (arith, g, q)),
+          ne-eqb k 3 (λ q. omega (arith, g, q)),
+          ne-eqb k 5 (λ q. omega (arith, g, q)),
+          ne-eqb k 4 (λ q. omega (arith, g, q)),
+          ne-eqb k 10 (λ q. omega (arith, g, q)),
+          ne-eqb k 6 (λ q. omega (arith, g, q)),
+          ne-eqb k 9 (λ q. omega (arith, g, q)),
+          ne-eqb k 8 (λ q. omega (arith, g, q)),
+          ne-eqb k 7 (λ q. omega (arith, g, q)),
+        ) in
+        absurd (omega (arith, ltb-true n 0 (rw none at h)))
+
+ordered-bound : (n : ℕ) (cs : List Check) → ordered n cs ≡ true → refusal cs ≤ 10
+ordered-bound n [] h = omega arith
+ordered-bound n (c ∷ cs) h =
+    let k = both (ltb n (rank (c .number))) (ordered (rank (c .number)) cs) h in
+    choice-le (c .holds) (listed n (c .number) (k .0)) (ordered-bound (rank (c .number)) cs (k .1))
+
+pub refusal-bound : (b : Board) (memory eeprom : List ℕ) (ev : Event) → number b memory eeprom ev ≤ 10
+refusal-bound b memory eeprom ev = ordered-bound 0 (checks b memory eeprom ev) (check-order b memory eeprom ev)

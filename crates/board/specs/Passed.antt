@@ -1,36 +1,26 @@
 -- What holds where no check refuses. Laws for the theorems and proofs about a step.
-use Prim.Native.Nat.{ℕ, _<_, _≤_}
+use Prim.Native.Nat.{ℕ, _≤_}
 use mathlib.Core.Path.{_≡_, refl}
-use mathlib.Core.Bool.{Bool, true, false, not, _||_}
+use mathlib.Core.Bool.{Bool, true, false, not}
 use mathlib.Core.List.{List, [], _∷_}
 use native.Mathlib.Omega.{arith}
-use borrow.Author.Tests.{eqb-true, ltb-false}
+use borrow.Author.Tests.{ltb-false}
 use lib.ListN.{length}
-use lib.Dec.{eqb, ltb}
-use Rattle.base.specs.Choice.{if_then_else_}
-use Rattle.base.specs.Checks.{Check, _refuses_, refusal}
+use lib.Dec.{ltb}
+use Rattle.base.specs.Checks.{_refuses_, refusal}
+use Rattle.base.specs.Unrefused.{passes}
 use Rattle.machine.specs.declared.Board.{Board}
-use Rattle.board.specs.Working.{workingBoard, WorkingBoard, board-of}
-use Rattle.board.specs.Refusals.{wrongLengths, eventChecks, checks}
-use Rattle.board.specs.declared.Din.{Din}
-use Rattle.board.specs.declared.Event.{Event}
-use Rattle.board.specs.declared.Event.the-variants.{DinPins}
-
--- where the first check refuses by no number it does not hold, and the answer is that of the rest
-pub passes : (t : Bool) (n : ℕ) (cs : List Check) → 0 < n → (if t then n else refusal cs) ≡ 0 → (t ≡ false) × (refusal cs ≡ 0)
-passes true n cs h e = absurd (omega arith)
-passes false n cs h e = (refl, e)
+use Rattle.board_refusal.specs.Working.{workingBoard, WorkingBoard, board-of}
+use Rattle.board_stores.specs.Stores.{wrongLengths}
+use Rattle.board_stores.specs.Lengths.{right-lengths}
+use Rattle.board_refusal.specs.Refusals.{eventChecks, checks}
+use Rattle.events.specs.declared.Din.{Din}
+use Rattle.events.specs.declared.Event.{Event}
+use Rattle.events.specs.declared.Event.the-variants.{DinPins}
 
 not-not : (t : Bool) → not t ≡ false → t ≡ true
 not-not true h = refl
 not-not false h = cc
-
-neither : (a b : Bool) → not a || not b ≡ false → (a ≡ true) × (b ≡ true)
-neither true b h = (refl, not-not b h)
-neither false b h = absurd (let z : _≡_ {A = ℕ} 0 1 = cc in omega arith)
-
-pub right-lengths : (m e : List ℕ) → wrongLengths m e ≡ false → (length m ≡ 512) × (length e ≡ 128)
-right-lengths m e h = let l = neither (eqb (length m) 512) (eqb (length e) 128) h in (eqb-true _ _ (l .0), eqb-true _ _ (l .1))
 
 -- the board works, the EEPROM has its length, and no check of the event refuses
 pub record Passed (b : Board) (m e : List ℕ) (ev : Event) : Type 0 where

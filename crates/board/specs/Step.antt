@@ -13,13 +13,13 @@ use Rattle.machine.specs.Parts.{withFifo}
 use Rattle.machine.specs.declared.Board.{Board}
 use Rattle.bus.specs.declared.Effect.{Effect}
 use Rattle.bus.specs.declared.Effect.the-variants.{Keep, Take, Store, Empty}
-use Rattle.board.specs.Act.{acted, eepromActed}
-use Rattle.board.specs.Refusals.{checks}
-use Rattle.board.specs.declared.Acted.{Acted}
-use Rattle.board.specs.declared.Answer.{Answer}
-use Rattle.board.specs.declared.Answer.the-variants.{Refused}
+use Rattle.board_act.specs.Act.{acted, eepromActed}
+use Rattle.board_refusal.specs.Refusals.{checks}
+use Rattle.board_acted.specs.declared.Acted.{Acted}
+use Rattle.events.specs.declared.Answer.{Answer}
+use Rattle.events.specs.declared.Answer.the-variants.{Refused}
 use Rattle.board.specs.declared.Outcome.{Outcome}
-use Rattle.board.specs.declared.Event.{Event}
+use Rattle.events.specs.declared.Event.{Event}
 
 -- ---- what an effect makes of the samples held, oldest first, and of the memory's record
 abbrev pub samplesAfter : Effect → List ℕ → List ℕ

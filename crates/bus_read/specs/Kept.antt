@@ -1,6 +1,6 @@
 -- Every read keeps a working board working.
 use Rattle.outputs.specs.Laws as outputs
-use Rattle.timer.specs.Kept.{timer-read-working}
+use Rattle.timer_bus.specs.Kept.{timer-read-working}
 use Rattle.machine.specs.Working.{WorkingMachine}
 use Rattle.machine.specs.Kept.{outputs-kept, clocks-kept}
 use Rattle.machine.specs.declared.Board.{Board}

@@ -7,7 +7,7 @@ use Rattle.fifo.specs.Flags.{flagBits}
 use Rattle.converter.specs.Registers.{statusBits}
 use Rattle.requests.specs.Registers.{modeBits, requestBits}
 use Rattle.outputs.specs.Outputs.{dacbusy, updated, updateAnswer}
-use Rattle.timer.specs.Timer.{timerRead}
+use Rattle.timer_bus.specs.Bus.{timerRead}
 use Rattle.timer.specs.declared.Select.{Select}
 use Rattle.ports.specs.Ports.{portRead, controlRead}
 use Rattle.calibration.specs.Registers.{calbusy, valueRead, addressRead, statusRead, revision}

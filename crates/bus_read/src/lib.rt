@@ -7,7 +7,7 @@ ghost use Rattle.bus_read.specs.Read.{inputBits, fifoBits, adBits, byteA
 ghost use Rattle.machine.specs.Parts.{withClocks, withOutputs};
 ghost use Rattle.machine_clock.specs.Clock.{withTimer};
 ghost use Rattle.outputs.specs.Outputs.{updated};
-ghost use Rattle.timer.specs.Timer.{timerRead};
+ghost use Rattle.timer_bus.specs.Bus.{timerRead};
 
 fn input_bits(b: Board) -> u8
     ensures { λ r. ⌜ r ≡ inputBits b ⌝ }
@@ -32,7 +32,7 @@ fn ad_bits(b: Board) -> u8
 fn timer_byte(b: Board, s: Select) -> u8
     ensures { λ r. ⌜ r ≡ timerRead (b .clocks .timer) s .byte ⌝ }
 {
-    let r = timer::read(b.clocks.timer, s);
+    let r = timer_bus::read(b.clocks.timer, s);
     r.byte
 }
 
@@ -78,7 +78,7 @@ fn update(b: Board) -> Board
 fn read_timer(b: Board, s: Select) -> Board
     ensures { λ r. ⌜ r ≡ withClocks b (withTimer (b .clocks) (timerRead (b .clocks .timer) s .timer)) ⌝ }
 {
-    let r = timer::read(b.clocks.timer, s);
+    let r = timer_bus::read(b.clocks.timer, s);
     let t = r.timer;
     let mut c = b;
     c.clocks = machine_clock::put_timer(b.clocks, t);

@@ -7,7 +7,7 @@ use mathlib.Core.Bool.{Bool, true}
 use mathlib.Core.List.{List, [], _∷_}
 use Rattle.base.specs.Checks.{Check, _refuses_, refusal}
 use Rattle.outputs.specs.Outputs.{dacbusy}
-use Rattle.timer.specs.Timer as timer
+use Rattle.timer_bus.specs.Bus as timer
 use Rattle.ports.specs.Ports as ports
 use Rattle.calibration.specs.Registers.{calbusy, several, locked}
 use Rattle.machine.specs.declared.Board.{Board}

@@ -5,8 +5,8 @@ use native.Mathlib.Omega.{arith}
 use Rattle.converter.specs.Working as converter
 use Rattle.converter.specs.Channels.{softwareTrigger}
 use Rattle.outputs.specs.Laws as outputs
-use Rattle.timer.specs.Kept.{control-working, count-working}
-use Rattle.timer.specs.Timer.{countWritten, controlWritten}
+use Rattle.timer_bus.specs.Kept.{control-working, count-working}
+use Rattle.timer_bus.specs.Bus.{countWritten, controlWritten}
 use Rattle.ports.specs.Laws as ports
 use Rattle.calibration.specs.Laws as calibration
 use Rattle.machine_clock.specs.Clock.{gates}

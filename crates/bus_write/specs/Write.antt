@@ -6,7 +6,7 @@ use Rattle.converter.specs.Channels.{softwareTriggered}
 use Rattle.converter.specs.Registers.{writtenLow, writtenHigh, writtenScanen, writtenClken}
 use Rattle.requests.specs.Registers.{writtenDepth, writtenFifoen, writtenEnables}
 use Rattle.outputs.specs.Outputs.{lsbWritten, msbWritten}
-use Rattle.timer.specs.Timer as timer
+use Rattle.timer_bus.specs.Bus as timer
 use Rattle.timer.specs.declared.Select.{Select}
 use Rattle.ports.specs.Ports as ports
 use Rattle.ports.specs.declared.Port.{Port}

@@ -13,7 +13,7 @@ ghost use mathlib.Core.Path.{_≡_};
 ghost use Rattle.bus_write.specs.Write.{withDout, withRange, fifoWritten, operationWritten, writtenAt};
 ghost use Rattle.machine_clock.specs.Clock.{gates, turnedBy};
 ghost use Rattle.machine.specs.Parts.{withConverter, withRequests, withRegisters, withOutputs, withPorts, withCalibration};
-ghost use Rattle.timer.specs.Timer.{countWritten, controlWritten};
+ghost use Rattle.timer_bus.specs.Bus.{countWritten, controlWritten};
 
 fn put_converter(b: Board, x: Converter) -> Board
     ensures { λ r. ⌜ r ≡ withConverter b x ⌝ }
@@ -96,7 +96,7 @@ fn write_count(b: Board, s: Select, v: u8) -> Board
 {
     machine_clock::turn_by(
         b,
-        timer::write_count(b.clocks.timer, s, v, machine_clock::gates_of(b)),
+        timer_bus::write_count(b.clocks.timer, s, v, machine_clock::gates_of(b)),
     )
 }
 
@@ -105,7 +105,7 @@ fn write_control(b: Board, v: u8) -> Board
 {
     machine_clock::turn_by(
         b,
-        timer::write_control(b.clocks.timer, v, machine_clock::gates_of(b)),
+        timer_bus::write_control(b.clocks.timer, v, machine_clock::gates_of(b)),
     )
 }
 

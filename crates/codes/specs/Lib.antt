@@ -1,4 +1,4 @@
 pub mod Output
 pub mod Nearest
 pub mod Plain
-pub mod Marked
+pub mod Examples

@@ -5,18 +5,18 @@ use mathlib.Core.Bool.{Bool, true, false, _&&_}
 use native.Mathlib.Omega.{arith}
 use lib.Dec.{eqb}
 use Rattle.base.specs.Choice.{if_then_else_}
-use Rattle.collector.specs.declared.Collector.{Collector}
-use Rattle.collector.specs.declared.Sample.{Sample}
-use Rattle.collector.specs.declared.Phase.{Phase}
-use Rattle.collector.specs.declared.Phase.the-variants.{Stop, Poll, Range, Clear, Low, High, Go, Look, Take, Drain, Stuck, Unknown}
-use Rattle.collector.specs.declared.Access.{Access}
-use Rattle.collector.specs.declared.Access.the-variants.{WriteByte, ReadByte, ReadWord, NoAccess}
-use Rattle.collector.specs.declared.Handed.{Handed}
-use Rattle.collector.specs.declared.Handed.the-variants.{Nothing, StartEnd, OneSample, LastSample, Refused}
-use Rattle.collector.specs.declared.Taken.{Taken}
-use Rattle.collector.specs.Phases.{phaseOf, accessIn, reads}
-use Rattle.collector.specs.Fit.{FitIn}
-use Rattle.collector.specs.Reply.{begun}
+use Rattle.collector_phases.specs.declared.Collector.{Collector}
+use Rattle.collector_answers.specs.declared.Sample.{Sample}
+use Rattle.collector_phases.specs.declared.Phase.{Phase}
+use Rattle.collector_phases.specs.declared.Phase.the-variants.{Stop, Poll, Range, Clear, Low, High, Go, Look, Take, Drain, Stuck, Unknown}
+use Rattle.collector_phases.specs.declared.Access.{Access}
+use Rattle.collector_phases.specs.declared.Access.the-variants.{WriteByte, ReadByte, ReadWord, NoAccess}
+use Rattle.collector_steps.specs.declared.Handed.{Handed}
+use Rattle.collector_steps.specs.declared.Handed.the-variants.{Nothing, StartEnd, OneSample, LastSample, Refused}
+use Rattle.collector_steps.specs.declared.Taken.{Taken}
+use Rattle.collector_phases.specs.Phases.{phaseOf, accessIn, reads}
+use Rattle.collector_phases.specs.Fit.{FitIn}
+use Rattle.collector_records.specs.Records.{begun}
 use Rattle.collector.specs.Steps.{Step}
 use Rattle.collector.specs.Steps.{stopped, poll-wide, poll-free, poll-again, poll-last, ranged, cleared, lowered, raised, went}
 use Rattle.collector.specs.Steps.{look-wide, look-contradicts, look-empty, look-full, look-few, taken, drained, closed, stands}

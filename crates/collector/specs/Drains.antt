@@ -8,18 +8,20 @@ use borrow.Author.Tests.{leb-true, leb-false}
 use lib.Dec.{eqb}
 use lib.ListN.{length}
 use Rattle.base.specs.Choice.{if_then_else_}
-use Rattle.collector.specs.declared.Settings.{Settings}
-use Rattle.collector.specs.declared.Collector.{Collector}
-use Rattle.collector.specs.declared.Sample.{Sample}
-use Rattle.collector.specs.declared.Phase.{Phase}
-use Rattle.collector.specs.declared.Phase.the-variants.{Drain}
-use Rattle.collector.specs.declared.Handed.{Handed}
-use Rattle.collector.specs.declared.Handed.the-variants.{OneSample}
-use Rattle.collector.specs.declared.Taken.{Taken}
-use Rattle.collector.specs.Phases.{number, phaseOf}
-use Rattle.collector.specs.Answers.{sampleAt}
-use Rattle.collector.specs.Fit.{FitCollector}
-use Rattle.collector.specs.Reply.{begun, draining, passed, reports, closes, replied}
+use Rattle.collector_settings.specs.declared.Settings.{Settings}
+use Rattle.collector_phases.specs.declared.Collector.{Collector}
+use Rattle.collector_answers.specs.declared.Sample.{Sample}
+use Rattle.collector_phases.specs.declared.Phase.{Phase}
+use Rattle.collector_phases.specs.declared.Phase.the-variants.{Drain}
+use Rattle.collector_steps.specs.declared.Handed.{Handed}
+use Rattle.collector_steps.specs.declared.Handed.the-variants.{OneSample}
+use Rattle.collector_steps.specs.declared.Taken.{Taken}
+use Rattle.collector_phases.specs.Phases.{number, phaseOf}
+use Rattle.collector_answers.specs.Answers.{sampleAt}
+use Rattle.collector_phases.specs.Fit.{FitCollector}
+use Rattle.collector_records.specs.Records.{begun, draining, passed}
+use Rattle.collector_steps.specs.Reads.{reports, closes}
+use Rattle.collector_replies.specs.Reply.{replied}
 use Rattle.collector.specs.Handed.{samplesOf, gapMarked}
 use Rattle.collector.specs.Steps.{Step, step, drained, closed}
 use Rattle.collector.specs.Kept.{replied-fit, draining-fit}

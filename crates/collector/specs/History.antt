@@ -4,16 +4,18 @@
 use Prim.Native.Nat.{ℕ, _≤_}
 use mathlib.Core.Path.{_≡_, refl, sym, ap, _∙_, subst}
 use mathlib.Core.Bool.{true}
-use Rattle.collector.specs.declared.Settings.{Settings}
-use Rattle.collector.specs.declared.Collector.{Collector}
-use Rattle.collector.specs.declared.Sample.{Sample}
-use Rattle.collector.specs.declared.Access.{Access}
-use Rattle.collector.specs.declared.Started.the-variants.{Begun}
-use Rattle.collector.specs.declared.Handed.the-variants.{LastSample}
-use Rattle.collector.specs.declared.Taken.{Taken}
-use Rattle.collector.specs.Phases.{phaseOf}
-use Rattle.collector.specs.Fit.{FitSettings, FitCollector}
-use Rattle.collector.specs.Reply.{begun, started, accessOf, replied}
+use Rattle.collector_settings.specs.declared.Settings.{Settings}
+use Rattle.collector_phases.specs.declared.Collector.{Collector}
+use Rattle.collector_answers.specs.declared.Sample.{Sample}
+use Rattle.collector_phases.specs.declared.Access.{Access}
+use Rattle.collector_records.specs.declared.Started.the-variants.{Begun}
+use Rattle.collector_steps.specs.declared.Handed.the-variants.{LastSample}
+use Rattle.collector_steps.specs.declared.Taken.{Taken}
+use Rattle.collector_phases.specs.Phases.{phaseOf}
+use Rattle.collector_phases.specs.Fit.{FitSettings, FitCollector}
+use Rattle.collector_records.specs.Records.{begun, started}
+use Rattle.collector_phases.specs.Accesses.{accessOf}
+use Rattle.collector_replies.specs.Reply.{replied}
 use Rattle.collector.specs.Steps.{step, access-fit}
 use Rattle.collector.specs.Kept.{begun-fit, started-begun, replied-fit}
 use Rattle.collector.specs.Counts.{countedOn, underway, step-counts, step-holds, step-within, gap-begins}

@@ -7,17 +7,18 @@ use borrow.Author.Tests.{eqb-true, eqb-false, leb-true, leb-false}
 use lib.Dec.{eqb, leb}
 use Rattle.base.specs.Choice.{if_then_else_}
 use Rattle.base.specs.Laws.{by-test}
-use Rattle.collector.specs.declared.Settings.{Settings}
-use Rattle.collector.specs.declared.Collector.{Collector}
-use Rattle.collector.specs.declared.Phase.{Phase}
-use Rattle.collector.specs.declared.Phase.the-variants.{Stop, Poll, Range, Clear, Low, High, Go, Look, Take, Drain, Stuck}
-use Rattle.collector.specs.declared.Started.the-variants.{Begun, NotBegun}
-use Rattle.collector.specs.declared.Taken.{Taken}
-use Rattle.collector.specs.Settings.{startRefusal}
-use Rattle.collector.specs.Phases.{number, phaseOf}
-use Rattle.collector.specs.Fit.{FitSettings, FitIn, FitCollector}
-use Rattle.collector.specs.Joined.{settings-of, settings-to}
-use Rattle.collector.specs.Reply.{begun, started, entered, counted, draining, following, passed, replied}
+use Rattle.collector_settings.specs.declared.Settings.{Settings}
+use Rattle.collector_phases.specs.declared.Collector.{Collector}
+use Rattle.collector_phases.specs.declared.Phase.{Phase}
+use Rattle.collector_phases.specs.declared.Phase.the-variants.{Stop, Poll, Range, Clear, Low, High, Go, Look, Take, Drain, Stuck}
+use Rattle.collector_records.specs.declared.Started.the-variants.{Begun, NotBegun}
+use Rattle.collector_steps.specs.declared.Taken.{Taken}
+use Rattle.collector_settings.specs.Settings.{startRefusal}
+use Rattle.collector_phases.specs.Phases.{number, phaseOf}
+use Rattle.collector_phases.specs.Fit.{FitSettings, FitIn, FitCollector}
+use Rattle.collector_replies.specs.Joined.{settings-of, settings-to}
+use Rattle.collector_records.specs.Records.{begun, started, entered, counted, draining, following, passed}
+use Rattle.collector_replies.specs.Reply.{replied}
 use Rattle.collector.specs.Steps.{Step, step}
 use Rattle.collector.specs.Steps.{stopped, poll-wide, poll-free, poll-again, poll-last, ranged, cleared, lowered, raised, went}
 use Rattle.collector.specs.Steps.{look-wide, look-contradicts, look-empty, look-full, look-few, taken, drained, closed, stands}

@@ -1,16 +1,8 @@
-pub mod Settings
-pub mod Phases
-pub mod Answers
-pub mod Fit
-pub mod Reply
-pub mod Channels
-pub mod Joined
 pub mod Steps
 pub mod Kept
 pub mod Handed
+pub mod Numbers
 pub mod Counts
 pub mod History
 pub mod Table
-pub mod Marked
 pub mod Drains
-pub mod Unrefused

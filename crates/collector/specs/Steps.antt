@@ -6,17 +6,21 @@ use mathlib.Core.Bool.{Bool, true, false}
 use mathlib.Core.List.{_∷_}
 use lib.Dec.{leb}
 use Rattle.base.specs.Checks.{_refuses_, refusal}
-use Rattle.collector.specs.declared.Collector.{Collector}
-use Rattle.collector.specs.declared.Phase.{Phase}
-use Rattle.collector.specs.declared.Phase.the-variants.{Stop, Poll, Range, Clear, Low, High, Go, Look, Take, Drain, Stuck, Unknown}
-use Rattle.collector.specs.declared.Access.the-variants.{NoAccess}
-use Rattle.collector.specs.declared.Handed.the-variants.{Nothing, StartEnd, OneSample, Refused}
-use Rattle.collector.specs.declared.Taken.{Taken}
-use Rattle.collector.specs.Phases.{number, phaseOf, accessIn, isNone}
-use Rattle.collector.specs.Answers.{wide, STS, EF, contradicts, isFull, sampleAt}
-use Rattle.collector.specs.Fit.{FitIn, FitCollector, fit}
-use Rattle.collector.specs.Joined.{fit-to}
-use Rattle.collector.specs.Reply.{entered, counted, draining, passed, reports, closes, lastPoll, readChecks, decided, accessOf, replied}
+use Rattle.collector_phases.specs.declared.Collector.{Collector}
+use Rattle.collector_phases.specs.declared.Phase.{Phase}
+use Rattle.collector_phases.specs.declared.Phase.the-variants.{Stop, Poll, Range, Clear, Low, High, Go, Look, Take, Drain, Stuck, Unknown}
+use Rattle.collector_phases.specs.declared.Access.the-variants.{NoAccess}
+use Rattle.collector_steps.specs.declared.Handed.the-variants.{Nothing, StartEnd, OneSample, Refused}
+use Rattle.collector_steps.specs.declared.Taken.{Taken}
+use Rattle.collector_phases.specs.Phases.{number, phaseOf, accessIn, isNone}
+use Rattle.collector_answers.specs.Answers.{wide, STS, EF, contradicts, isFull, sampleAt}
+use Rattle.collector_phases.specs.Fit.{FitIn, FitCollector, fit}
+use Rattle.collector_replies.specs.Joined.{fit-to}
+use Rattle.collector_records.specs.Records.{entered, counted, draining, passed}
+use Rattle.collector_steps.specs.Reads.{reports, closes}
+use Rattle.collector_replies.specs.Reply.{decided, replied}
+use Rattle.collector_refusals.specs.Refusals.{lastPoll, readChecks}
+use Rattle.collector_phases.specs.Accesses.{accessOf}
 
 pub data Step (c : Collector) (a : ℕ) : Phase → Taken → Type 0 where
   stopped : Step c a Stop (reports (entered c (number Poll)) Nothing)

@@ -8,18 +8,20 @@ use mathlib.Core.Bool.{Bool, _&&_}
 use mathlib.Core.List.{List, [], _∷_}
 use lib.Dec.{eqb, leb}
 use Rattle.base.specs.Choice.{if_then_else_}
-use Rattle.collector.specs.declared.Settings.{Settings}
-use Rattle.collector.specs.declared.Collector.{Collector}
-use Rattle.collector.specs.declared.Phase.{Phase}
-use Rattle.collector.specs.declared.Phase.the-variants.{Stop, Poll, Range, Clear, Low, High, Go, Look, Take, Drain, Stuck, Unknown}
-use Rattle.collector.specs.declared.Access.{Access}
-use Rattle.collector.specs.declared.Access.the-variants.{WriteByte, ReadByte, ReadWord, NoAccess}
-use Rattle.collector.specs.declared.Taken.{Taken}
-use Rattle.collector.specs.Settings.{clockByte}
-use Rattle.collector.specs.Phases.{number, phaseOf, accessIn}
-use Rattle.collector.specs.Answers.{wide, STS, EF, contradicts, isFull}
-use Rattle.collector.specs.Fit.{FitCollector}
-use Rattle.collector.specs.Reply.{lastPoll, accessOf, replied}
+use Rattle.collector_settings.specs.declared.Settings.{Settings}
+use Rattle.collector_phases.specs.declared.Collector.{Collector}
+use Rattle.collector_phases.specs.declared.Phase.{Phase}
+use Rattle.collector_phases.specs.declared.Phase.the-variants.{Stop, Poll, Range, Clear, Low, High, Go, Look, Take, Drain, Stuck, Unknown}
+use Rattle.collector_phases.specs.declared.Access.{Access}
+use Rattle.collector_phases.specs.declared.Access.the-variants.{WriteByte, ReadByte, ReadWord, NoAccess}
+use Rattle.collector_steps.specs.declared.Taken.{Taken}
+use Rattle.collector_settings.specs.Settings.{clockByte}
+use Rattle.collector_phases.specs.Phases.{number, phaseOf, accessIn}
+use Rattle.collector_answers.specs.Answers.{wide, STS, EF, contradicts, isFull}
+use Rattle.collector_phases.specs.Fit.{FitCollector}
+use Rattle.collector_refusals.specs.Refusals.{lastPoll}
+use Rattle.collector_phases.specs.Accesses.{accessOf}
+use Rattle.collector_replies.specs.Reply.{replied}
 use Rattle.collector.specs.Steps.{Step, step, access-fit}
 use Rattle.collector.specs.Steps.{stopped, poll-wide, poll-free, poll-again, poll-last, ranged, cleared, lowered, raised, went}
 use Rattle.collector.specs.Steps.{look-wide, look-contradicts, look-empty, look-full, look-few, taken, drained, closed, stands}

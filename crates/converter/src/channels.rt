@@ -122,20 +122,6 @@ pub fn write_clken(c: Converter, byte: u8) -> Converter
     next
 }
 
-// The byte read at 2.
-pub fn read_low(c: Converter) -> u8
-    ensures { λ r. ⌜ r ≡ c .low ⌝ }
-{
-    c.low
-}
-
-// The byte read at 3.
-pub fn read_high(c: Converter) -> u8
-    ensures { λ r. ⌜ r ≡ c .high ⌝ }
-{
-    c.high
-}
-
 // STS and the selected channel as they stand in the byte read at 8.
 pub fn status_bits(c: Converter) -> u8
     ensures { λ r. ⌜ r ≡ statusBits c ⌝ }

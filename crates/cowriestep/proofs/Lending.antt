@@ -43,13 +43,13 @@ use denote.Triple.Spec.{tripleOf}
 use denote.Triple.Clauses.{ensured, lasts}
 use Rattle.board.specs.Step.{stepOf, memoryAfter, eepromAfter}
 use Rattle.machine.specs.declared.Board.{Board}
-use Rattle.board.specs.declared.Event.{Event}
+use Rattle.events.specs.declared.Event.{Event}
 use Rattle.numbers.specs.declared.Numbered.{Numbered}
 use Rattle.numbers.specs.Packed.{numberedOf}
 use Rattle.machine.proofs.Board as Boardᴿ
 use Rattle.machine.proofs.Board.Laws as Boardᴸ
-use Rattle.board.proofs.Event as Eventᴿ
-use Rattle.board.proofs.Event.Laws as Eventᴸ
+use Rattle.events.proofs.Event as Eventᴿ
+use Rattle.events.proofs.Event.Laws as Eventᴸ
 use Rattle.numbers.proofs.Numbered as O
 use Rattle.numbers.proofs.Numbered.Laws as O′
 use Rattle.numbers.proofs.stepped as step

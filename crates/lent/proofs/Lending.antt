@@ -43,15 +43,15 @@ use denote.Triple.Spec.{tripleOf}
 use denote.Triple.Clauses.{ensured, lasts}
 use Rattle.board.specs.Step.{stepOf, memoryAfter, eepromAfter}
 use Rattle.machine.specs.declared.Board.{Board}
-use Rattle.board.specs.declared.Event.{Event}
-use Rattle.board.specs.declared.Answer.{Answer}
+use Rattle.events.specs.declared.Event.{Event}
+use Rattle.events.specs.declared.Answer.{Answer}
 use Rattle.board.specs.declared.Outcome.{Outcome}
 use Rattle.machine.proofs.Board as Boardᴿ
 use Rattle.machine.proofs.Board.Laws as Boardᴸ
-use Rattle.board.proofs.Event as Eventᴿ
-use Rattle.board.proofs.Event.Laws as Eventᴸ
-use Rattle.board.proofs.Answer as N
-use Rattle.board.proofs.Answer.Laws as N′
+use Rattle.events.proofs.Event as Eventᴿ
+use Rattle.events.proofs.Event.Laws as Eventᴸ
+use Rattle.events.proofs.Answer as N
+use Rattle.events.proofs.Answer.Laws as N′
 use Rattle.board.proofs.Outcome as O
 use Rattle.board.proofs.Outcome.Laws as O′
 use Rattle.board.proofs.step as step

@@ -5,8 +5,8 @@ use mathlib.Core.Path.{_≡_, sym, _∙_}
 use mathlib.Core.List.{List}
 use Rattle.machine.specs.declared.Board.{Board}
 use Rattle.board.specs.Step.{stepOf, memoryAfter, eepromAfter}
-use Rattle.board.specs.declared.Answer.{Answer}
-use Rattle.board.specs.declared.Event.{Event}
+use Rattle.events.specs.declared.Answer.{Answer}
+use Rattle.events.specs.declared.Event.{Event}
 
 -- From the record b, the memories m and e and an event: the answer, in the form that `form` gives it, and the record and both memories at exit
 pub record Stepped {X : Type 0} (form : Answer → X) (b : Board) (m e : List ℕ) (event : Event) (answer′ : X) (b′ : Board) (m′ e′ : List ℕ) : Type 0 where

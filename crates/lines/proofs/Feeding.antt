@@ -8,19 +8,22 @@ use native.Mathlib.Omega.{arith}
 use borrow.Author.Tests.{le-leb, lt-leb}
 use lib.ListN.{length, take, drop, getD, take-append-drop, length-append, drop-of-length-le}
 use lib.Seq.{slice, take-take, length-take-le, drop-append-le, length-slice}
-use Rattle.words.specs.Reading.{taken, readFrom}
-use Rattle.words.specs.Text.{Wrote}
-use Rattle.words.proofs.Writing.{wrote-as, wrote-then}
+use Rattle.reading.specs.Reading.{taken, readFrom}
+use Rattle.reading.specs.Found.{plain, Found}
+use Rattle.reading.specs.declared.Line.{Line}
+use Rattle.reading.proofs.Scanning.{slice-more, plain-cons}
+use Rattle.text.specs.Text.{Wrote}
+use Rattle.text.proofs.Writing.{wrote-as, wrote-then}
 use Rattle.answers.proofs.Lengths.{nothing-written}
-use Rattle.lines.specs.Session.{Talk, talkOf, lineDone, lineSaid, Done}
-use Rattle.lines.specs.Feeding.{withReading, after, said, final, output, consumed, plain, Found, Advanced, Ran}
+use Rattle.talk.specs.Session.{Talk, talkOf}
+use Rattle.talk.specs.declared.Session.{Session}
+use Rattle.line.specs.Done.{lineDone, lineSaid, Done}
+use Rattle.line.specs.declared.Answered.{Answered}
+use Rattle.line.proofs.Answering.{line-length}
+use Rattle.lines.specs.Feeding.{withReading, after, said, final, output, consumed, Advanced, Ran}
 use Rattle.lines.specs.Pieces.{final-append, output-append}
-use Rattle.lines.specs.declared.Session.{Session}
 use Rattle.lines.specs.declared.Fed.{Fed}
-use Rattle.lines.specs.declared.line.Line.{Line}
-use Rattle.lines.specs.declared.line.Answered.{Answered}
-use Rattle.lines.proofs.Answering.{line-length}
-use Rattle.lines.proofs.Scanning.{slice-more, plain-cons, final-plain, output-plain, consumed-plain}
+use Rattle.lines.proofs.Plain.{final-plain, output-plain, consumed-plain}
 
 abbrev broken : List ℕ → List ℕ
 broken a = a ++ (10 ∷ [])

@@ -1,3 +1,2 @@
-pub mod Answering
-pub mod Scanning
+pub mod Plain
 pub mod Feeding

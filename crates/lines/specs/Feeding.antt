@@ -1,18 +1,17 @@
 -- A session that is fed bytes: what it is after them, and what it has printed. Only a line feed (10) ends a line; all other bytes belong to it.
 use Prim.Native.Nat.{ℕ, zero, suc, _+_, _-_, _≤_, _<_}
 use mathlib.Core.Path.{_≡_}
-use mathlib.Core.Bool.{Bool, true, false}
 use mathlib.Core.List.{List, [], _∷_, _++_}
 use lib.Dec.{eqb, leb}
-use lib.ListN.{length, take, getD}
+use lib.ListN.{length, take}
 use lib.Seq.{slice}
 use Rattle.base.specs.Choice.{if_then_else_}
-use Rattle.words.specs.Reading.{taken, readFrom}
-use Rattle.words.specs.Text.{Wrote}
-use Rattle.words.specs.declared.reading.Reading.{Reading}
-use Rattle.lines.specs.Session.{Talk, talkOf, lineDone, lineSaid}
+use Rattle.reading.specs.Reading.{taken}
+use Rattle.text.specs.Text.{Wrote}
+use Rattle.reading.specs.declared.Reading.{Reading}
+use Rattle.talk.specs.Session.{Talk, talkOf}
+use Rattle.line.specs.Done.{lineDone, lineSaid}
 use Rattle.lines.specs.declared.Fed.{Fed}
-use Rattle.lines.specs.declared.line.Line.{Line}
 
 abbrev pub withReading : Talk → Reading → Talk
 withReading t reading = record { board = t .board; memory = t .memory; eeprom = t .eeprom; number = t .number; reading = reading }
@@ -37,19 +36,6 @@ output t (b ∷ bytes) = said t b ++ output (after t b) bytes
 unfoldable pub consumed : Talk → ℕ → List ℕ → ℕ
 consumed t room [] = 0
 consumed t room (b ∷ bytes) = if leb 64 room then suc (consumed (after t b) (room - length (said t b)) bytes) else 0
-
--- bytes that end no line
-unfoldable pub plain : List ℕ → Bool
-plain [] = true
-plain (b ∷ bytes) = if eqb b 10 then false else plain bytes
-
--- ---- what `read_line` finds: the bytes up to a newline, or to the piece's end
-pub record Found (reading : Reading) (piece : List ℕ) (from : ℕ) (r : Line) : Type 0 where
-  pub least : from ≤ r .end
-  pub most : r .end ≤ length piece
-  pub unbroken : plain (slice from (r .end) piece) ≡ true
-  pub read : r .reading ≡ readFrom reading (slice from (r .end) piece)
-  pub stop : r .end < length piece → getD piece (r .end) 0 ≡ 10
 
 -- ---- what `advance` does: the bytes from i to `taken` are fed
 pub record Advanced (t : Talk) (piece : List ℕ) (i : ℕ) (out : List ℕ) (at : ℕ) (memory eeprom out′ : List ℕ) (r : Fed) : Type 0 where

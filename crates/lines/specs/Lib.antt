@@ -1,4 +1,3 @@
-pub mod Session
 pub mod Feeding
 pub mod Pieces
 pub mod Lines

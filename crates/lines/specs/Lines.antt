@@ -12,14 +12,18 @@ use lib.ListN.{length}
 use Rattle.base.specs.Choice.{if_then_else_}
 use Rattle.words.specs.Command.{commandOf}
 use Rattle.words.specs.Line.{read-line, taken-begun}
-use Rattle.words.specs.Reading.{taken, readFrom, commandRead, isBegun}
-use Rattle.words.specs.declared.reading.Reading.{Reading}
-use Rattle.words.specs.declared.reading.Reading.the-variants.{Blank}
-use Rattle.lines.specs.Session.{Talk, counted, askedBy, doneBy, saidBy, lineDone, lineSaid}
+use Rattle.reading.specs.Reading.{taken, readFrom}
+use Rattle.reading.proofs.Scanning.{read-more}
+use Rattle.words.specs.Ends.{commandRead, isBegun}
+use Rattle.reading.specs.declared.Reading.{Reading}
+use Rattle.reading.specs.declared.Reading.the-variants.{Blank}
+use Rattle.talk.specs.Session.{Talk, counted}
+use Rattle.asked.specs.Asked.{askedBy}
+use Rattle.line.specs.Done.{doneBy, saidBy, lineDone, lineSaid}
 use Rattle.lines.specs.Feeding.{withReading, after, said, final, output}
 use Rattle.lines.specs.Pieces.{whole, printed, pieces-same}
-use Rattle.lines.specs.declared.line.Asked.{Asked}
-use Rattle.lines.specs.declared.line.Asked.the-variants.{Nothing, Happen}
+use Rattle.asked.specs.declared.Asked.{Asked}
+use Rattle.asked.specs.declared.Asked.the-variants.{Nothing, Happen}
 
 -- ---- the lines of a text: what stands before each newline, and after the last one if anything does
 abbrev pub begunWith : ℕ → List (List ℕ) → List (List ℕ)
@@ -67,11 +71,6 @@ unfolding sessionText output final ending
 text-none t h = rw h
 
 -- ---- a line of which the bytes p were read
-read-more : (r : Reading) (p : List ℕ) (b : ℕ) → readFrom r (p ++ (b ∷ [])) ≡ taken (readFrom r p) b
-unfolding readFrom
-read-more r [] b = refl
-read-more r (x ∷ p) b = read-more (taken r x) p b
-
 read-begun : (r : Reading) (p : List ℕ) (b : ℕ) → isBegun (readFrom r (b ∷ p)) ≡ true
 unfolding readFrom
 read-begun r [] b = taken-begun r b

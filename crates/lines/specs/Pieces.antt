@@ -5,7 +5,7 @@ use Prim.Native.Nat.{ℕ, _≤_, _<_}
 use native.Mathlib.Omega.{arith}
 use borrow.Author.Tests.{le-leb}
 use lib.ListN.{length}
-use Rattle.lines.specs.Session.{Talk}
+use Rattle.talk.specs.Session.{Talk}
 use Rattle.lines.specs.Feeding.{after, said, final, output, consumed, Ran}
 use Rattle.lines.specs.declared.Fed.{Fed}
 

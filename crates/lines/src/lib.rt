@@ -1,47 +1,20 @@
 // A session: the text of standard input, fed piece by piece, and what is printed for it. The state is a record by value; what is printed is
 // written to a lent slice.
-mod line;
-
 ghost use mathlib.Core.Path.{_≡_};
 ghost use Prim.Native.Nat.{_<_, _≤_, _-_};
 ghost use lib.ListN.{length};
 ghost use lib.Seq.{slice};
-ghost use Rattle.lines.specs.Session.{Talk, talkOf, beginning, begun};
+ghost use Rattle.talk.specs.Session.{Talk, talkOf};
 ghost use Rattle.lines.specs.Feeding.{Advanced, Ran};
-use board::Board;
-use words::reading::Reading;
-
-// The board, what the line so far is, and the number of the last line that was answered.
-pub struct Session {
-    pub board: Board,
-    pub reading: Reading,
-    pub number: u64,
-}
+pub use talk::Session;
+pub use talk::begin;
+pub use talk::is_begun;
 
 // The session after what was fed, how much of `out` was written, and how many bytes of the piece were taken.
 pub struct Fed {
     pub session: Session,
     pub at: usize,
     pub taken: usize,
-}
-
-// A session with a fresh board, jumpers A, mid-scale, before its first line.
-pub fn begin() -> Session
-    ensures { λ r. ⌜ r ≡ beginning ⌝ }
-{
-    Session {
-        board: board::fresh(board::Jumpers::A, false),
-        reading: Reading::Blank,
-        number: 0,
-    }
-}
-
-// Whether a line has begun that no newline has ended.
-pub fn is_begun(session: Session) -> bool
-    ensures { λ r. ⌜ r ≡ begun session ⌝ }
-{
-    let reading = session.reading;
-    words::reading::is_begun(reading)
 }
 
 // From the byte i of the piece to the line's end, or to the piece's.
@@ -58,7 +31,7 @@ fn advance(
     ensures { λ r. ⌜ Advanced (talkOf session (now (memory .entry)) (now (eeprom .entry))) (now (piece .entry)) i (now (out .entry)) at (now (memory .exit)) (now (eeprom .exit)) (now (out .exit)) r ⌝ }
 {
     let reading = session.reading;
-    let found = line::read_line(piece, i, reading);
+    let found = reading::read_line(piece, i, reading);
     let read = found.reading;
     let end = found.end;
     let board = session.board;

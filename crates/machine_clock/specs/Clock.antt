@@ -9,8 +9,8 @@ use Rattle.timer.specs.Timer.{out, fell, gatesMoved}
 use Rattle.timer.specs.declared.Timer.{Timer}
 use Rattle.timer.specs.declared.Gates.{Gates}
 use Rattle.timer.specs.declared.Select.the-variants.{Counter0, Counter2}
-use Rattle.timer.specs.declared.Written.{Written}
-use Rattle.timer.specs.declared.Written.the-variants.{Accepted, Refused}
+use Rattle.timer_bus.specs.declared.Written.{Written}
+use Rattle.timer_bus.specs.declared.Written.the-variants.{Accepted, Refused}
 use Rattle.machine.specs.Parts.{withConverter, withRequests, withRegisters, withClocks}
 use Rattle.machine.specs.declared.Registers.{Registers}
 use Rattle.machine.specs.declared.Clocks.{Clocks}

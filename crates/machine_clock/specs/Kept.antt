@@ -4,13 +4,14 @@ use mathlib.Core.Bool.{false}
 use Rattle.converter.specs.Working as converter
 use Rattle.converter.specs.Channels.{clockTrigger}
 use Rattle.timer.specs.Working.{WorkingTimer}
-use Rattle.timer.specs.Kept.{gates-working, WorkingWritten}
+use Rattle.timer.specs.Kept.{gates-working}
+use Rattle.timer_bus.specs.Kept.{WorkingWritten}
 use Rattle.timer.specs.Timer.{out, fell, gatesMoved}
 use Rattle.timer.specs.declared.Timer.{Timer}
 use Rattle.timer.specs.declared.Gates.{Gates}
 use Rattle.timer.specs.declared.Select.the-variants.{Counter2}
-use Rattle.timer.specs.declared.Written.{Written}
-use Rattle.timer.specs.declared.Written.the-variants.{Accepted, Refused}
+use Rattle.timer_bus.specs.declared.Written.{Written}
+use Rattle.timer_bus.specs.declared.Written.the-variants.{Accepted, Refused}
 use Rattle.machine.specs.Parts.{withClocks}
 use Rattle.machine_clock.specs.Clock.{gates, gatesAt, withTimer, turned, turnedBy}
 use Rattle.machine_clock.specs.Clock.{countingWritten}

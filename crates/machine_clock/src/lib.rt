@@ -3,7 +3,7 @@ use machine::Board;
 use machine::Clocks;
 use timer::Gates;
 use timer::Timer;
-use timer::Written;
+use timer_bus::Written;
 ghost use mathlib.Core.Path.{_≡_};
 ghost use Rattle.machine_clock.specs.Clock.{gatesAt, gates, withTimer, turned, turnedBy, countingWritten};
 

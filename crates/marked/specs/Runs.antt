@@ -9,9 +9,10 @@ use Rattle.machine.specs.Fresh.{freshBoard}
 use Rattle.machine.specs.Parts.{withFifo}
 use Rattle.machine.specs.declared.Jumpers.the-variants.{A}
 use Rattle.board.specs.Held.{Held, answered, happened}
-use Rattle.board.specs.declared.Answer.{Answer}
-use Rattle.board.specs.declared.Event.{Event}
-use Rattle.board.specs.declared.Event.the-variants.{WriteByte, ConversionEnd, Tick}
+use Rattle.events.specs.declared.Answer.{Answer}
+use Rattle.events.specs.declared.Event.{Event}
+use Rattle.events.specs.declared.Event.the-variants.{WriteByte, ConversionEnd, Tick}
+use Rattle.collector_settings.specs.declared.Settings.{Settings}
 
 -- a fresh board, jumpers A, mid-scale
 abbrev pub fresh : Held
@@ -58,3 +59,7 @@ outs (n ∷ ns) h = happened h Tick .board .clocks .timer .counter0 .count .out 
 abbrev pub ticks : List ℕ → Held → Held
 ticks [] h = h
 ticks (n ∷ ns) h = ticks ns (happened h Tick)
+
+-- ---- a start of the collector: jumpers C and these channels, range code 0, the internal clock, 1,000 polls
+abbrev pub jumpersC : ℕ → ℕ → Settings
+jumpersC low high = record { low = low; high = high; jumpers = 2; range = 0; clock = 1; limit = 1000 }

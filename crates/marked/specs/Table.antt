@@ -6,16 +6,16 @@ use mathlib.Core.List.{List, [], _∷_}
 use lib.IntN.{ℤ, pos, negsuc, negℤ}
 use lib.Ieee.{fin, round}
 use lib.Ieee.Exact.{HasValue}
-use mir.Syntax.{w16}
-use mir.Val.{toZ}
 use Rattle.counting_modes.specs.Control.{command, wordRefused, setupOf}
 use Rattle.counting_element.specs.Element.{countedBy}
 use Rattle.counting.specs.Counter.{commanded, pulsed, gateMoved, counterRead, byteRefused, byteWritten}
-use Rattle.timer.specs.Timer.{moved, clockedIf, gatesMoved, controlRefused, controlWritten, countRefused, countWritten, timerRead}
+use Rattle.timer.specs.Timer.{moved, clockedIf, gatesMoved}
+use Rattle.timer_bus.specs.Bus.{controlRefused, controlWritten, countRefused, countWritten, timerRead}
 use Rattle.fifo.specs.Samples.{pushed}
 use Rattle.fifo.specs.Queue.{pushedTo, poppedFrom}
 use Rattle.fifo.specs.Flags.{flagBits}
 use Rattle.converter.specs.Channels.{nextChannel}
+use Rattle.converter.specs.Codes.{codeOf}
 use Rattle.machine_clock.specs.Clock.{turned, countingWritten}
 use Rattle.machine_tick.specs.Tick.{dividersTicked, counter0Ticked, counter1Ticked, outputsTicked, ticked}
 use Rattle.machine_reset.specs.Reset.{boardReset, requestsCleared, pageSet, miscWritten}
@@ -24,21 +24,20 @@ use Rattle.bus.specs.Effects.{readEffect, writeEffect}
 use Rattle.bus_read.specs.Read.{byteAt, afterRead}
 use Rattle.bus_write.specs.Write.{writtenAt}
 use Rattle.bus_refusal.specs.Refusals.{writeChecks, readChecks}
-use Rattle.board.specs.Act.{acted, eepromActed}
-use Rattle.board.specs.Refusals.{eventChecks}
+use Rattle.board_act.specs.Act.{acted, eepromActed}
+use Rattle.board_refusal.specs.Refusals.{eventChecks}
 use Rattle.board.specs.Step.{ran}
 use Rattle.board.specs.Held.{answered, happened}
-use Rattle.board.specs.declared.Answer.the-variants.{Done, Byte, Word}
-use Rattle.board.specs.declared.Event.{Event}
-use Rattle.board.specs.declared.Event.the-variants.{WriteByte, ReadByte, ReadWord, ConversionEnd}
+use Rattle.events.specs.declared.Answer.the-variants.{Done, Byte, Word}
+use Rattle.events.specs.declared.Event.{Event}
+use Rattle.events.specs.declared.Event.the-variants.{WriteByte, ReadByte, ReadWord, ConversionEnd}
 use Rattle.volts.specs.declared.Voltage.the-variants.{Volts}
 use Rattle.volts.specs.Volts.{readingOf, voltage}
 use Rattle.codes.specs.Output.{given, refused, outputOf, bytesOf}
-use Rattle.collector.specs.Settings.{startRefusal}
-use Rattle.collector.specs.Reply.{begun, started}
-use Rattle.collector.specs.Marked.{jumpersC}
-use Rattle.collector.specs.declared.Started.the-variants.{Begun, NotBegun}
-use Rattle.marked.specs.Runs.{fresh, full, after, answers, channels, conversions, outs, ticks}
+use Rattle.collector_settings.specs.Settings.{startRefusal}
+use Rattle.collector_records.specs.Records.{begun, started}
+use Rattle.collector_records.specs.declared.Started.the-variants.{Begun, NotBegun}
+use Rattle.marked.specs.Runs.{fresh, full, after, answers, channels, conversions, outs, ticks, jumpersC}
 
 -- five of something, six, four: a list that is as long
 abbrev pub five : List ℕ
@@ -72,10 +71,13 @@ pub record Marked : Type 0 where
   pub case-4 : channels five (after fresh (range 30 1)) ≡ 30 ∷ 31 ∷ 0 ∷ 1 ∷ 30 ∷ []
   -- 5. Page 1, 8←0B: page 1
   pub case-5 : after fresh (WriteByte 8 1 ∷ WriteByte 8 0x0B ∷ []) .board .registers .page ≡ 1
-  -- 6. Bytes 60, C5: -15008; ±5 V: -2.2900390625
-  pub case-6 : toZ w16 (0x60 + 256 * 0xC5) ≡ negℤ (pos 15008)
+  -- 6. Bytes 60, C5: -15008; ±5 V: -2.2900390625. The manual's 17762 is hex 4562, not 4560
+  pub case-6 : codeOf (0x60 + 256 * 0xC5) ≡ negℤ (pos 15008)
+  pub case-6-bytes : answers (after fresh (WriteByte 0 0 ∷ ConversionEnd (negℤ (pos 15008)) ∷ [])) (ReadByte 0 ∷ ReadByte 1 ∷ [])
+      ≡ Byte 0x60 ∷ Byte 0xC5 ∷ []
   pub case-6-volts : voltage (readingOf (negℤ (pos 15008)) 0) ≡ Volts (fin true 2345 (negsuc 9))
   pub case-6-decimal : HasValue (fin true 2345 (negsuc 9)) true 22900390625 (10 ^ 10)
+  pub case-6-hex : (_≡_ {A = ℕ} 17762 0x4562) × (_≡_ {A = ℕ} 17760 0x4560)
   -- 7. 3,000,000 µV, ±5: 3277, for channel 1 bytes 205, 76
   pub case-7 : outputOf (pos 3000000) 0 ≡ given 3277
   pub case-7-bytes : bytesOf (pos 3000000) 0 1 ≡ given (205 + 256 * 76)
@@ -105,8 +107,10 @@ marked =
       case-4 = refl;
       case-5 = refl;
       case-6 = refl;
+      case-6-bytes = refl;
       case-6-volts = refl;
       case-6-decimal = (refl, refl);
+      case-6-hex = (refl, refl);
       case-7 = refl;
       case-7-bytes = refl;
       case-8-top = refl;

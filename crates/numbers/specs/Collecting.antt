@@ -1,16 +1,16 @@
 -- The collector's answers in records of numbers. The specification, "The collector"; what a kind does not have is 0.
 use Prim.Native.Nat.{ℕ}
-use lib.IntN.{ℤ, pos}
-use Rattle.collector.specs.declared.Settings.{Settings}
-use Rattle.collector.specs.declared.Collector.{Collector}
-use Rattle.collector.specs.declared.Sample.{Sample}
-use Rattle.collector.specs.declared.Started.{Started}
-use Rattle.collector.specs.declared.Started.the-variants.{Begun, NotBegun}
-use Rattle.collector.specs.declared.Access.{Access}
-use Rattle.collector.specs.declared.Access.the-variants.{WriteByte, ReadByte, ReadWord, NoAccess}
-use Rattle.collector.specs.declared.Handed.{Handed}
-use Rattle.collector.specs.declared.Handed.the-variants.{Nothing, StartEnd, OneSample, LastSample, Refused}
-use Rattle.collector.specs.declared.Taken.{Taken}
+use lib.IntN.{pos}
+use Rattle.collector_phases.specs.declared.Collector.{Collector}
+use Rattle.collector_answers.specs.declared.Sample.{Sample}
+use Rattle.collector_records.specs.declared.Started.{Started}
+use Rattle.collector_records.specs.declared.Started.the-variants.{Begun, NotBegun}
+use Rattle.collector_phases.specs.declared.Access.{Access}
+use Rattle.collector_phases.specs.declared.Access.the-variants.{WriteByte, ReadByte, ReadWord, NoAccess}
+use Rattle.collector_steps.specs.declared.Handed.{Handed}
+use Rattle.collector_steps.specs.declared.Handed.the-variants.{Nothing, StartEnd, OneSample, LastSample, Refused}
+use Rattle.collector_steps.specs.declared.Taken.{Taken}
+use Rattle.collector.specs.Handed.{refusalNumber}
 use Rattle.numbers.specs.declared.collecting.StartAnswer.{StartAnswer}
 use Rattle.numbers.specs.declared.collecting.AccessNamed.{AccessNamed}
 use Rattle.numbers.specs.declared.collecting.TakenAnswer.{TakenAnswer}
@@ -44,13 +44,6 @@ kindHanded (OneSample s) = 2
 kindHanded (LastSample s) = 3
 kindHanded (Refused number) = 4
 
-abbrev pub refusalHanded : Handed → ℕ
-refusalHanded Nothing = 0
-refusalHanded StartEnd = 0
-refusalHanded (OneSample s) = 0
-refusalHanded (LastSample s) = 0
-refusalHanded (Refused number) = number
-
 abbrev pub noSample : Sample
 noSample = record { channel = 0; code = pos 0 }
 
@@ -66,6 +59,6 @@ takenAnswer t = record {
   collector = t .collector;
   polls = t .polls;
   handed = kindHanded (t .handed);
-  refusal = refusalHanded (t .handed);
+  refusal = refusalNumber (t .handed);
   sample = sampleHanded (t .handed);
 }

@@ -1,9 +1,9 @@
 -- An answer to a C host: one number of 32 bits, which holds the specification's refusal number and value ("Refusal numbers", "Registers").
 --     bits 31-29   the kind         bits 28-24   the refusal         bits 23-16   0         bits 15-0   the byte or the word
 use Prim.Native.Nat.{ℕ, _+_, _*_, _%_}
-use Rattle.board.specs.Answers.{refusalNumber, valueRead}
-use Rattle.board.specs.declared.Answer.{Answer}
-use Rattle.board.specs.declared.Answer.the-variants.{Done, Byte, Word, Refused}
+use Rattle.events.specs.Answers.{refusalNumber, valueRead}
+use Rattle.events.specs.declared.Answer.{Answer}
+use Rattle.events.specs.declared.Answer.the-variants.{Done, Byte, Word, Refused}
 use Rattle.board.specs.declared.Outcome.{Outcome}
 use Rattle.numbers.specs.declared.Numbered.{Numbered}
 

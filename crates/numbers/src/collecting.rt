@@ -8,9 +8,12 @@ use collector::Settings;
 use collector::Started;
 ghost use mathlib.Core.Path.{_≡_};
 ghost use lib.ListN.{length};
-ghost use Rattle.collector.specs.Reply.{started, accessOf, replied};
+ghost use Rattle.collector_records.specs.Records.{started};
+ghost use Rattle.collector_phases.specs.Accesses.{accessOf};
+ghost use Rattle.collector_replies.specs.Reply.{replied};
+ghost use Rattle.collector.specs.Handed.{refusalNumber};
 ghost use Rattle.scans.specs.Scans.{wholeScans};
-ghost use Rattle.numbers.specs.Collecting.{noCollector, startAnswer, accessNamed, refusalHanded, sampleHanded, kindHanded, takenAnswer};
+ghost use Rattle.numbers.specs.Collecting.{noCollector, startAnswer, accessNamed, sampleHanded, kindHanded, takenAnswer};
 
 // A start: the record and 0, or no record and the refusal.
 #[repr(C)]
@@ -132,7 +135,7 @@ fn kind_handed(h: Handed) -> u8
 }
 
 fn refusal_handed(h: Handed) -> u8
-    ensures { λ r. ⌜ r ≡ refusalHanded h ⌝ }
+    ensures { λ r. ⌜ r ≡ refusalNumber h ⌝ }
 {
     match h {
         Handed::Nothing => 0,

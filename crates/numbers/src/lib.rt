@@ -2,7 +2,7 @@
 // so that the exported functions only pass them on.
 ghost use mathlib.Core.Path.{_≡_};
 ghost use Rattle.board.specs.Step.{stepOf, memoryAfter, eepromAfter};
-ghost use Rattle.board.specs.Stores.{freshMemory, freshEeprom, storesAnswer};
+ghost use Rattle.board_stores.specs.Stores.{freshMemory, freshEeprom, storesAnswer};
 ghost use Rattle.numbers.specs.Packed.{answerNumber, numberedOf};
 ghost use Rattle.numbers.specs.Boards.{freshOf};
 use board::Answer;

@@ -107,13 +107,6 @@ pub fn write_enables(r: Requests, byte: u8) -> Requests
     next
 }
 
-// The byte read at 6.
-pub fn read_depth(r: Requests) -> u8
-    ensures { λ s. ⌜ s ≡ r .threshold ⌝ }
-{
-    r.threshold
-}
-
 // FIFOEN and SCANEN as they stand in the byte read at 7.
 pub fn mode_bits(c: Converter, r: Requests) -> u8
     ensures { λ s. ⌜ s ≡ modeBits c r ⌝ }

@@ -1,60 +1,6 @@
-// A session over standard input and standard output. What was read is answered before the next read waits. Every decision is in `lines`.
-ghost use mathlib.Core.Path.{_≡_};
+// A session over standard input and standard output. Every decision is in `lines`, each read and its answer in `pieces`.
 ghost use Prim.Native.Nat.{_≤_};
 ghost use lib.ListN.{length};
-use libc::STDOUT_FILENO;
-use lines::Session;
-
-pub struct Turned {
-    pub session: Session,
-    pub more: bool,
-}
-
-// Answers a piece: as much of it as `out` has room for, then the rest.
-fn answer(
-    piece: &[u8],
-    session: Session,
-    memory: &mut [u16],
-    eeprom: &mut [u8],
-    out: &mut [u8],
-) -> Turned
-    requires { ⌜ 64 ≤ length (now out) ⌝ }
-{
-    let mut session = session;
-    let mut from: usize = 0;
-    let mut more = true;
-    while from < piece.len() {
-        let fed = lines::feed(&piece[from..], session, memory, eeprom, out);
-        let next = fed.session;
-        let at = fed.at;
-        let taken = fed.taken;
-        session = next;
-        from += taken;
-        more = io::write_all(STDOUT_FILENO, &out[..at]) & more;
-    }
-    Turned { session, more }
-}
-
-// One read, its answer, and whether to go on.
-fn turn(
-    session: Session,
-    memory: &mut [u16],
-    eeprom: &mut [u8],
-    buf: &mut [u8],
-    out: &mut [u8],
-) -> Turned
-    requires { ⌜ 64 ≤ length (now out) ⌝ }
-{
-    let got = libc::read(0, buf);
-    if got <= 0 {
-        return Turned {
-            session,
-            more: false,
-        };
-    }
-    let n = io::count(got, buf);
-    answer(&buf[..n], session, memory, eeprom, out)
-}
 
 // A proved loop has to end, and nothing says that the input does: no input has as many pieces as there are turns, 2^64 - 1.
 fn talk(memory: &mut [u16], eeprom: &mut [u8], buf: &mut [u8], out: &mut [u8])
@@ -64,14 +10,14 @@ fn talk(memory: &mut [u16], eeprom: &mut [u8], buf: &mut [u8], out: &mut [u8])
     let mut more = true;
     let mut turns = u64::MAX;
     while turns > 0 && more {
-        let turned = turn(session, memory, eeprom, buf, out);
+        let turned = pieces::turn(session, memory, eeprom, buf, out);
         let next = turned.session;
         session = next;
         more = turned.more;
         turns -= 1;
     }
     if lines::is_begun(session) {
-        answer(b"\n", session, memory, eeprom, out);
+        pieces::answer(b"\n", session, memory, eeprom, out);
     }
 }
 

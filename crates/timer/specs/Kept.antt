@@ -1,23 +1,18 @@
--- Each event keeps a working timer working. A refused write leaves the caller's timer as it was.
-use Prim.Native.Nat.{ℕ}
+-- Each clock and each move of the gates keeps a working timer working.
 use mathlib.Core.Path.{_≡_, refl}
 use mathlib.Core.Bool.{Bool}
 use Rattle.base.specs.Choice.{if_then_else_}
-use Rattle.base.specs.Fields.{field}
 use Rattle.base.specs.Laws.{by-choice}
-use Rattle.counting.specs.Counter.{commanded, byteWritten, pulsed}
+use Rattle.counting.specs.Counter.{pulsed}
 use Rattle.counting.specs.Working.{Working}
-use Rattle.counting.specs.Kept.{unprogrammed-working, commanded-working, pulsed-working, gate-working, read-working, written-working}
+use Rattle.counting.specs.Kept.{unprogrammed-working, pulsed-working, gate-working}
 use Rattle.counting.specs.declared.Counter.{Counter}
 use Rattle.timer.specs.Timer.{unprogrammedTimer, counterOf, gateOf, out, fell, put, cascaded, moved, clocked, clockedIf, gatesMoved}
-use Rattle.timer.specs.Timer.{selected, controlRefused, controlWritten, countRefused, countWritten, timerRead}
 use Rattle.timer.specs.Working.{WorkingTimer}
 use Rattle.timer.specs.declared.Timer.{Timer}
 use Rattle.timer.specs.declared.Gates.{Gates}
 use Rattle.timer.specs.declared.Select.{Select}
 use Rattle.timer.specs.declared.Select.the-variants.{Counter0, Counter1, Counter2}
-use Rattle.timer.specs.declared.Written.{Written}
-use Rattle.timer.specs.declared.Written.the-variants.{Accepted, Refused}
 
 pub unprogrammed-timer-working : WorkingTimer unprogrammedTimer
 unprogrammed-timer-working =
@@ -28,7 +23,7 @@ counter-working t Counter0 w = w .counter0
 counter-working t Counter1 w = w .counter1
 counter-working t Counter2 w = w .counter2
 
-put-working : (t : Timer) (s : Select) (d : Counter) → WorkingTimer t → Working d → WorkingTimer (put t s d)
+pub put-working : (t : Timer) (s : Select) (d : Counter) → WorkingTimer t → Working d → WorkingTimer (put t s d)
 put-working t Counter0 d w k = record { counter0 = k; counter1 = w .counter1; counter2 = w .counter2 }
 put-working t Counter1 d w k = record { counter0 = w .counter0; counter1 = k; counter2 = w .counter2 }
 put-working t Counter2 d w k = record { counter0 = w .counter0; counter1 = w .counter1; counter2 = k }
@@ -38,7 +33,7 @@ cascaded-working before after g w =
     by-choice WorkingTimer (fell (out before Counter1) (out after Counter1))
     (put-working after Counter2 _ w (pulsed-working _ (gateOf g Counter2) (w .counter2))) w
 
-moved-working : (t : Timer) (s : Select) (d : Counter) (g : Gates) → WorkingTimer t → Working d → WorkingTimer (moved t s d g)
+pub moved-working : (t : Timer) (s : Select) (d : Counter) (g : Gates) → WorkingTimer t → Working d → WorkingTimer (moved t s d g)
 unfolding moved
 moved-working t s d g w k = cascaded-working t (put t s d) g (put-working t s d w k)
 
@@ -55,25 +50,3 @@ gates-working t was is w =
       counter1 = gate-working _ (was .gate12) (is .gate12) (w .counter1);
       counter2 = gate-working _ (was .gate12) (is .gate12) (w .counter2);
     }
-
-pub timer-read-working : (t : Timer) (s : Select) → WorkingTimer t → WorkingTimer (timerRead t s .timer)
-unfolding timerRead
-timer-read-working t s w = put-working t s _ w (read-working _ (counter-working t s w))
-
--- what an accepted write leaves is working
-abbrev pub WorkingWritten : Written → Type 0
-WorkingWritten (Accepted t) = WorkingTimer t
-WorkingWritten (Refused n) = Unit {0}
-
-pub control-working : (t : Timer) (w : ℕ) (g : Gates) → WorkingTimer t → WorkingWritten (controlWritten t w g)
-unfolding controlWritten
-control-working t w g k =
-    let s = selected (field w 64 4) in
-    by-choice WorkingWritten (controlRefused w) {x = Refused 7} {y = Accepted (moved t s (commanded (counterOf t s) w) g)} tt
-    (moved-working t s _ g k (commanded-working _ w (counter-working t s k)))
-
-pub count-working : (t : Timer) (s : Select) (b : ℕ) (g : Gates) → WorkingTimer t → WorkingWritten (countWritten t s b g)
-unfolding countWritten
-count-working t s b g k =
-    by-choice WorkingWritten (countRefused t s b) {x = Refused 7} {y = Accepted (moved t s (byteWritten (counterOf t s) b) g)} tt
-    (moved-working t s _ g k (written-working _ b (counter-working t s k)))

@@ -1,21 +1,14 @@
 -- Three counters. Manual, 17.1: "Counters 1 and 2 are cascaded together ... The output of counter 1 provides the input for counter 2";
--- counter 0 has a gate of its own, counters 1 and 2 share one. Data sheet (chapter 19): "Control Word Format", SC. The specification:
--- "A falling OUT1 clocks counter 2, whether a tick or a write caused it."
-use Prim.Native.Nat.{ℕ}
+-- counter 0 has a gate of its own, counters 1 and 2 share one. The specification: "A falling OUT1 clocks counter 2, whether a tick or a write
+-- caused it."
 use mathlib.Core.Bool.{Bool, true, false, not, _&&_, _||_}
-use lib.Dec.{eqb}
 use Rattle.base.specs.Choice.{if_then_else_}
-use Rattle.base.specs.Fields.{field}
-use Rattle.counting_modes.specs.Control.{wordRefused}
-use Rattle.counting.specs.Counter.{unprogrammed, commanded, pulsed, gateMoved, counterRead, byteRefused, byteWritten}
+use Rattle.counting.specs.Counter.{unprogrammed, pulsed, gateMoved}
 use Rattle.counting.specs.declared.Counter.{Counter}
 use Rattle.timer.specs.declared.Timer.{Timer}
 use Rattle.timer.specs.declared.Gates.{Gates}
 use Rattle.timer.specs.declared.Select.{Select}
 use Rattle.timer.specs.declared.Select.the-variants.{Counter0, Counter1, Counter2}
-use Rattle.timer.specs.declared.Written.{Written}
-use Rattle.timer.specs.declared.Written.the-variants.{Accepted, Refused}
-use Rattle.timer.specs.declared.TimerRead.{TimerRead}
 
 abbrev pub unprogrammedTimer : Timer
 unprogrammedTimer = record { counter0 = unprogrammed; counter1 = unprogrammed; counter2 = unprogrammed }
@@ -70,29 +63,3 @@ gatesMoved t was is = record {
   counter1 = gateMoved (t .counter1) (was .gate12) (is .gate12);
   counter2 = gateMoved (t .counter2) (was .gate12) (is .gate12);
 }
-
--- ---- a control word. SC - Select Counter: 00, 01, 10 select counter 0, 1, 2; 11 is the read-back command, which is not modelled
-abbrev pub selected : ℕ → Select
-selected sc = if eqb sc 0 then Counter0 else if eqb sc 1 then Counter1 else Counter2
-
-unfoldable pub controlRefused : ℕ → Bool
-controlRefused w = eqb (field w 64 4) 3 || wordRefused w
-
--- the specification's refusal 7, "setting not modelled: ... listed 8254 ... cases"
-unfoldable pub controlWritten : Timer → ℕ → Gates → Written
-controlWritten t w g =
-    if controlRefused w then Refused 7
-    else Accepted (moved t (selected (field w 64 4)) (commanded (counterOf t (selected (field w 64 4))) w) g)
-
--- ---- a byte of a count for the counter s
-unfoldable pub countRefused : Timer → Select → ℕ → Bool
-countRefused t s b = byteRefused (counterOf t s) b
-
-unfoldable pub countWritten : Timer → Select → ℕ → Gates → Written
-countWritten t s b g =
-    if countRefused t s b then Refused 7
-    else Accepted (moved t s (byteWritten (counterOf t s) b) g)
-
--- ---- a read of the counter s, which moves no OUT
-unfoldable pub timerRead : Timer → Select → TimerRead
-timerRead t s = record { byte = counterRead (counterOf t s) .byte; timer = put t s (counterRead (counterOf t s) .counter) }

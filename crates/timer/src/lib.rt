@@ -3,7 +3,6 @@
 use counting::Counter;
 ghost use mathlib.Core.Path.{_≡_};
 ghost use Rattle.timer.specs.Timer.{unprogrammedTimer, counterOf, gateOf, out, fell, put, cascaded, moved, clocked, clockedIf, gatesMoved};
-ghost use Rattle.timer.specs.Timer.{selected, controlRefused, controlWritten, countRefused, countWritten, timerRead};
 ghost use Rattle.timer.specs.Working.{workingTimer};
 
 #[repr(C)]
@@ -26,21 +25,6 @@ pub enum Select {
     Counter2,
 }
 
-// What a write answers: the timer after it, or the refusal number.
-pub enum Written {
-    Accepted(Timer),
-    Refused(u8),
-}
-
-// The byte that a read gives, and the timer after it.
-pub struct TimerRead {
-    pub byte: u8,
-    pub timer: Timer,
-}
-
-// The refusal number of a setting that is not modelled.
-const NOT_MODELLED: u8 = 7;
-
 // The three counters before their first control words.
 pub fn new() -> Timer
     ensures { λ r. ⌜ r ≡ unprogrammedTimer ⌝ }
@@ -52,7 +36,8 @@ pub fn new() -> Timer
     }
 }
 
-fn counter_of(t: Timer, s: Select) -> Counter
+// One of the three.
+pub fn counter_of(t: Timer, s: Select) -> Counter
     ensures { λ r. ⌜ r ≡ counterOf t s ⌝ }
 {
     match s {
@@ -87,7 +72,8 @@ pub fn has_fallen(was: bool, is: bool) -> bool
     was & !is
 }
 
-fn put_counter(t: Timer, s: Select, d: Counter) -> Timer
+// The timer with another counter in its place.
+pub fn put_counter(t: Timer, s: Select, d: Counter) -> Timer
     ensures { λ r. ⌜ r ≡ put t s d ⌝ }
 {
     let mut u = t;
@@ -121,7 +107,8 @@ fn cascade(before: Timer, after: Timer, g: Gates) -> Timer
     }
 }
 
-fn move_counter(t: Timer, s: Select, d: Counter, g: Gates) -> Timer
+// A counter becomes another: the way of every change that may move an OUT.
+pub fn move_counter(t: Timer, s: Select, d: Counter, g: Gates) -> Timer
     ensures { λ r. ⌜ r ≡ moved t s d g ⌝ }
 {
     cascade(t, put_counter(t, s, d), g)
@@ -151,67 +138,6 @@ pub fn move_gates(t: Timer, was: Gates, is: Gates) -> Timer
         counter0: counting::move_gate(a, was.gate0, is.gate0),
         counter1: counting::move_gate(b, was.gate12, is.gate12),
         counter2: counting::move_gate(c, was.gate12, is.gate12),
-    }
-}
-
-fn select_of(sc: u8) -> Select
-    ensures { λ r. ⌜ r ≡ selected sc ⌝ }
-{
-    if sc == 0 {
-        Select::Counter0
-    } else if sc == 1 {
-        Select::Counter1
-    } else {
-        Select::Counter2
-    }
-}
-
-// Whether a control word is refused.
-pub fn refuses_control(word: u8) -> bool
-    ensures { λ r. ⌜ r ≡ controlRefused word ⌝ }
-{
-    (word / 64 % 4 == 3) | counting_modes::control::refuses_word(word)
-}
-
-// A control word: it goes to the counter that it selects.
-pub fn write_control(t: Timer, word: u8, g: Gates) -> Written
-    ensures { λ r. ⌜ r ≡ controlWritten t word g ⌝ }
-{
-    if refuses_control(word) {
-        Written::Refused(NOT_MODELLED)
-    } else {
-        let s = select_of(word / 64 % 4);
-        Written::Accepted(move_counter(t, s, counting::write_word(counter_of(t, s), word), g))
-    }
-}
-
-// Whether a byte of a count for a counter is refused.
-pub fn refuses_count(t: Timer, s: Select, byte: u8) -> bool
-    ensures { λ r. ⌜ r ≡ countRefused t s byte ⌝ }
-{
-    counting::refuses_byte(counter_of(t, s), byte)
-}
-
-// A byte of a count.
-pub fn write_count(t: Timer, s: Select, byte: u8, g: Gates) -> Written
-    ensures { λ r. ⌜ r ≡ countWritten t s byte g ⌝ }
-{
-    if refuses_count(t, s, byte) {
-        Written::Refused(NOT_MODELLED)
-    } else {
-        Written::Accepted(move_counter(t, s, counting::write_byte(counter_of(t, s), byte), g))
-    }
-}
-
-// A read of a counter.
-pub fn read(t: Timer, s: Select) -> TimerRead
-    ensures { λ r. ⌜ r ≡ timerRead t s ⌝ }
-{
-    let a = counting::read(counter_of(t, s));
-    let d = a.counter;
-    TimerRead {
-        byte: a.byte,
-        timer: put_counter(t, s, d),
     }
 }
 

@@ -5,7 +5,7 @@ use libc::STDOUT_FILENO;
 use timer::Gates;
 use timer::Select;
 use timer::Timer;
-use timer::Written;
+use timer_bus::Written;
 
 pub struct Bench {
     pub timer: Timer,
@@ -50,7 +50,7 @@ fn wrote(b: Bench, w: Written) -> Bench {
 fn control(b: Bench, value: u32) -> Bench {
     let t = b.timer;
     let g = b.gates;
-    wrote(b, timer::write_control(t, (value % 256) as u8, g))
+    wrote(b, timer_bus::write_control(t, (value % 256) as u8, g))
 }
 
 fn count(b: Bench, value: u32) -> Bench {
@@ -58,14 +58,14 @@ fn count(b: Bench, value: u32) -> Bench {
     let g = b.gates;
     wrote(
         b,
-        timer::write_count(t, select_of(value / 256 % 16), (value % 256) as u8, g),
+        timer_bus::write_count(t, select_of(value / 256 % 16), (value % 256) as u8, g),
     )
 }
 
 fn read(b: Bench, value: u32) -> Bench {
     let t = b.timer;
     let g = b.gates;
-    let r = timer::read(t, select_of(value % 16));
+    let r = timer_bus::read(t, select_of(value % 16));
     let shown = [
         b' ',
         script::hex_digit(r.byte / 16),

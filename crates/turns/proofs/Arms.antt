@@ -4,10 +4,10 @@ use mathlib.Core.Path.{_≡_, refl, sym, ap, _∙_}
 use mathlib.Core.List.{List}
 use Rattle.machine.specs.declared.Board.{Board}
 use Rattle.board.specs.Step.{stepOf, memoryAfter, eepromAfter}
-use Rattle.board.specs.declared.Event.{Event}
+use Rattle.events.specs.declared.Event.{Event}
 use Rattle.board.specs.declared.Outcome.{Outcome}
-use Rattle.collector.specs.declared.Collector.{Collector}
-use Rattle.collector.specs.Reply.{accessOf}
+use Rattle.collector_phases.specs.declared.Collector.{Collector}
+use Rattle.collector_phases.specs.Accesses.{accessOf}
 use Rattle.turns.specs.declared.Asked.{Asked}
 use Rattle.turns.specs.declared.Asked.the-variants.{Made, NotMade}
 use Rattle.turns.specs.declared.Brought.{Brought}

@@ -6,11 +6,11 @@ use mathlib.Core.List.{List}
 use mathlib.Core.Option.{Option}
 use lib.IntN.{ℤ}
 use Rattle.converter.specs.declared.channels.Converter.{Converter}
-use Rattle.board.specs.declared.Answer.{Answer}
-use Rattle.board.specs.declared.Event.{Event}
-use Rattle.collector.specs.declared.Access.{Access}
-use Rattle.collector.specs.declared.Collector.{Collector}
-use Rattle.collector.specs.declared.Taken.{Taken}
+use Rattle.events.specs.declared.Answer.{Answer}
+use Rattle.events.specs.declared.Event.{Event}
+use Rattle.collector_phases.specs.declared.Access.{Access}
+use Rattle.collector_phases.specs.declared.Collector.{Collector}
+use Rattle.collector_steps.specs.declared.Taken.{Taken}
 
 -- what conversions and samples depend on: low, high and selected channel, the conversion in progress (STS) and its channel, SCANEN and CLKEN;
 -- the samples held, oldest first; OVF

@@ -1,22 +1,22 @@
 -- The product's own board and collector: the definitions that `board::step` and the collector's functions promise.
 use Prim.Native.Nat.{ℕ}
 use mathlib.Core.Path.{_≡_}
-use mathlib.Core.Bool.{Bool, true, false, _&&_}
+use mathlib.Core.Bool.{Bool, _&&_}
 use mathlib.Core.List.{List}
-use mathlib.Core.Option.{Option, none, some}
-use lib.IntN.{ℤ}
+use mathlib.Core.Option.{none}
 use lib.Dec.{eqb}
 use Rattle.base.specs.Choice.{if_then_else_}
 use Rattle.fifo.specs.Queue.{queue}
 use Rattle.machine.specs.declared.Board.{Board}
 use Rattle.board.specs.Step.{number, stepOf, memoryAfter, eepromAfter}
 use Rattle.board.specs.Begins as conversions
-use Rattle.board.specs.declared.Event.{Event}
-use Rattle.board.specs.declared.Event.the-variants.{WriteByte, ReadByte, ReadWord, ConversionEnd, DinPins, LatchLevel, PortPins, Tick, TransferEnd}
-use Rattle.collector.specs.declared.Collector.{Collector}
-use Rattle.collector.specs.Reply.{accessOf, replied}
+use Rattle.events.specs.declared.Event.{Event}
+use Rattle.events.specs.declared.Event.the-variants.{WriteByte, ReadByte, ReadWord, ConversionEnd, DinPins, LatchLevel, PortPins, Tick, TransferEnd}
+use Rattle.collector_phases.specs.declared.Collector.{Collector}
+use Rattle.collector_phases.specs.Accesses.{accessOf}
+use Rattle.collector_replies.specs.Reply.{replied}
 use Rattle.turns.specs.declared.Turned.{Turned}
-use Rattle.turns.specs.Machine.{View, Machine, Host}
+use Rattle.turns.specs.Machine.{Machine, Host}
 use Rattle.turns.specs.Turn.{Turning, turnOf}
 
 -- the board's record with the memories that are lent
@@ -31,18 +31,6 @@ lent b m e = record { board = b; memory = m; eeprom = e }
 -- an event of it is not refused
 abbrev pub takes : Lent → Event → Bool
 takes l ev = eqb (number (l .board) (l .memory) (l .eeprom) ev) 0
-
--- the code that a conversion ends with
-abbrev pub codeIn : Event → Option ℤ
-codeIn (WriteByte offset value) = none
-codeIn (ReadByte offset) = none
-codeIn (ReadWord offset) = none
-codeIn (ConversionEnd code) = some code
-codeIn (DinPins d) = none
-codeIn (LatchLevel high) = none
-codeIn (PortPins q v) = none
-codeIn Tick = none
-codeIn TransferEnd = none
 
 -- the board of `board::step`; what it refuses begins and ends nothing
 abbrev pub real : Machine
@@ -59,7 +47,7 @@ real =
       view = λ l.
           record { converter = l .board .converter; held = queue (l .board .fifo) (l .memory); ovf = l .board .fifo .ovf };
       begins = λ l ev. takes l ev && conversions.begins (l .board) ev;
-      ends = λ l ev. if takes l ev then codeIn ev else none;
+      ends = λ l ev. if takes l ev then conversions.codeIn ev else none;
     }
 
 -- the collector of the specification, which fetches samples by word reads

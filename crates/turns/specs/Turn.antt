@@ -1,16 +1,16 @@
 -- One turn: the access that the collector names is made as an event of the board, and the board's answer is handed to the collector (the
 -- specification, "The collector").
 use Prim.Native.Nat.{ℕ}
-use Rattle.board.specs.declared.Answer.{Answer}
-use Rattle.board.specs.declared.Answer.the-variants.{Done, Byte, Word, Refused}
-use Rattle.board.specs.declared.Event.{Event}
-use Rattle.board.specs.declared.Event.the-variants as event
-use Rattle.collector.specs.declared.Access.{Access}
-use Rattle.collector.specs.declared.Access.the-variants.{WriteByte, ReadByte, ReadWord, NoAccess}
-use Rattle.collector.specs.declared.Collector.{Collector}
-use Rattle.collector.specs.declared.Handed.{Handed}
-use Rattle.collector.specs.declared.Handed.the-variants as handed
-use Rattle.collector.specs.declared.Taken.{Taken}
+use Rattle.events.specs.declared.Answer.{Answer}
+use Rattle.events.specs.declared.Answer.the-variants.{Done, Byte, Word, Refused}
+use Rattle.events.specs.declared.Event.{Event}
+use Rattle.events.specs.declared.Event.the-variants as event
+use Rattle.collector_phases.specs.declared.Access.{Access}
+use Rattle.collector_phases.specs.declared.Access.the-variants.{WriteByte, ReadByte, ReadWord, NoAccess}
+use Rattle.collector_phases.specs.declared.Collector.{Collector}
+use Rattle.collector_steps.specs.declared.Handed.{Handed}
+use Rattle.collector_steps.specs.declared.Handed.the-variants as handed
+use Rattle.collector_steps.specs.declared.Taken.{Taken}
 use Rattle.turns.specs.declared.Asked.{Asked}
 use Rattle.turns.specs.declared.Asked.the-variants.{Made, NotMade}
 use Rattle.turns.specs.declared.Brought.{Brought}

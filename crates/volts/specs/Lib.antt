@@ -3,4 +3,4 @@ pub mod Volts
 pub mod Rounding
 pub mod Exact
 pub mod Host
-pub mod Marked
+pub mod Examples

@@ -1,14 +1,14 @@
 -- What a line asks for. The specification, "The session program": `W offset value`, `R offset` (offset decimal 0 to 99, value two hex digits),
 -- `X` word read, `C code` (conversion end, decimal -32768 to 32767); "Another line prints its number and `bad`. Fields stand one space apart; hex
 -- digits may be either case, decimals have no plus or leading zero".
-use Prim.Native.Nat.{ℕ, _+_, _*_}
+use Prim.Native.Nat.{ℕ, _+_, _-_, _*_}
 use mathlib.Core.Bool.{Bool, false, _&&_}
 use mathlib.Core.List.{List, [], _∷_}
 use lib.Dec.{eqb, leb, ltb}
 use Rattle.base.specs.Choice.{if_then_else_}
-use Rattle.words.specs.Bytes.{digitOf, hexOf, minus}
-use Rattle.words.specs.declared.reading.Command.{Command}
-use Rattle.words.specs.declared.reading.Command.the-variants.{WriteByte, ReadByte, ReadWord, EndConversion, NoCommand}
+use Rattle.digits.specs.Digits.{digitOf, hexOf}
+use Rattle.words.specs.declared.Command.{Command}
+use Rattle.words.specs.declared.Command.the-variants.{WriteByte, ReadByte, ReadWord, EndConversion, NoCommand}
 
 -- a field's number, where it is one
 pub data Found : Type 0 where
@@ -42,6 +42,10 @@ upTo limit none = none
 upTo limit (some n) = if leb n limit then some n else none
 
 -- ---- a code in its 16 bits; 45 is the minus
+-- the 16 bits of the code -n, for n up to 32768
+abbrev pub minus : ℕ → ℕ
+minus n = if eqb n 0 then 0 else 65536 - n
+
 abbrev pub negated : Found → Found
 negated none = none
 negated (some n) = some (minus n)

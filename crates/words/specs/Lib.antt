@@ -1,6 +1,4 @@
-pub mod Bytes
 pub mod Command
-pub mod Reading
+pub mod Ends
 pub mod Rest
 pub mod Line
-pub mod Text

@@ -8,15 +8,16 @@ use native.Mathlib.Omega.{arith}
 use borrow.Author.Tests.{eqb-true, leb-false, ltb-true, lt-leb}
 use lib.Dec.{eqb, leb, ltb}
 use Rattle.base.specs.Choice.{if_then_else_}
-use Rattle.words.specs.Bytes.{digitOf, hexOf, minus}
+use Rattle.digits.specs.Digits.{digitOf, hexOf}
 use Rattle.words.specs.Command.{Found, first, others, digits, alone, decimal, upTo, value, commandOf}
 use Rattle.words.specs.Command.Found.{none, some}
-use Rattle.words.specs.Reading.{minusTaken, numberEnded, begunTaken, digitTaken, firstHexTaken, secondHexTaken, taken, readFrom, commandRead, isBegun}
-use Rattle.words.specs.declared.reading.Command.the-variants.{NoCommand}
-use Rattle.words.specs.declared.reading.Number.{Number}
-use Rattle.words.specs.declared.reading.Number.the-variants.{WriteOffset, ReadOffset, Code, MinusCode}
-use Rattle.words.specs.declared.reading.Reading.{Reading}
-use Rattle.words.specs.declared.reading.Reading.the-variants.{Blank, Letter, Begun, Zero, Digits, Offset, HalfValue, Whole, Single, Spoiled}
+use Rattle.reading.specs.Reading.{minusTaken, numberEnded, begunTaken, digitTaken, firstHexTaken, secondHexTaken, taken, readFrom}
+use Rattle.words.specs.Ends.{commandRead, isBegun}
+use Rattle.words.specs.declared.Command.the-variants.{NoCommand}
+use Rattle.reading.specs.declared.Number.{Number}
+use Rattle.reading.specs.declared.Number.the-variants.{WriteOffset, ReadOffset, Code, MinusCode}
+use Rattle.reading.specs.declared.Reading.{Reading}
+use Rattle.reading.specs.declared.Reading.the-variants.{Blank, Letter, Begun, Zero, Digits, Offset, HalfValue, Whole, Single, Spoiled}
 use Rattle.words.specs.Rest.{numbered, started, half, last, meaning, no-number, read-end, read-space, read-first}
 
 -- more digits only make a number larger

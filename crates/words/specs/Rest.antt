@@ -6,16 +6,17 @@ use Prim.Native.Nat.{ℕ, _+_, _*_, _%_}
 use borrow.Author.Tests.{eqb-true}
 use lib.Dec.{eqb, leb, ltb}
 use Rattle.base.specs.Choice.{if_then_else_}
-use Rattle.words.specs.Bytes.{digitOf, hexOf, minus}
-use Rattle.words.specs.Command.{Found, first, digits, alone, decimal, upTo, negated, code, value, writeAt, readAt, endWith, commandIn}
+use Rattle.digits.specs.Digits.{digitOf, hexOf}
+use Rattle.words.specs.Command.{minus, Found, first, digits, alone, decimal, upTo, negated, code, value, writeAt, readAt, endWith, commandIn}
 use Rattle.words.specs.Command.Found.{none, some}
-use Rattle.words.specs.Reading.{firstTaken, taken, commandRead}
-use Rattle.words.specs.declared.reading.Command.{Command}
-use Rattle.words.specs.declared.reading.Command.the-variants.{WriteByte, ReadByte, ReadWord, EndConversion, NoCommand}
-use Rattle.words.specs.declared.reading.Number.{Number}
-use Rattle.words.specs.declared.reading.Number.the-variants.{WriteOffset, ReadOffset, Code, MinusCode}
-use Rattle.words.specs.declared.reading.Reading.{Reading}
-use Rattle.words.specs.declared.reading.Reading.the-variants.{Blank, Letter, Begun, Zero, Digits, Offset, HalfValue, Whole, Single, Spoiled}
+use Rattle.reading.specs.Reading.{firstTaken, taken}
+use Rattle.words.specs.Ends.{commandRead}
+use Rattle.words.specs.declared.Command.{Command}
+use Rattle.words.specs.declared.Command.the-variants.{WriteByte, ReadByte, ReadWord, EndConversion, NoCommand}
+use Rattle.reading.specs.declared.Number.{Number}
+use Rattle.reading.specs.declared.Number.the-variants.{WriteOffset, ReadOffset, Code, MinusCode}
+use Rattle.reading.specs.declared.Reading.{Reading}
+use Rattle.reading.specs.declared.Reading.the-variants.{Blank, Letter, Begun, Zero, Digits, Offset, HalfValue, Whole, Single, Spoiled}
 
 -- ---- what the rest of a line means after what was read: the rest of the field, and the fields after it
 -- a number whose field is n, the last one but for an offset of W
@@ -156,7 +157,7 @@ no-letter : (b : ℕ) → eqb b 87 ≡ false → eqb b 82 ≡ false → eqb b 67
     → commandIn (b ∷ f) fs ≡ NoCommand
 no-letter b w r c x [] [] = rw x
 no-letter b w r c x [] (f ∷ []) = rw (r, c)
-no-letter b w r c x [] (f ∷ v ∷ []) = rw w
+no-letter b w r c x [] (f ∷ v ∷ []) = ap (λ (t : Bool). if t then writeAt (upTo 99 (decimal f)) (value v) else NoCommand) w
 no-letter b w r c x [] (f ∷ v ∷ g ∷ fs) = refl
 no-letter b w r c x (d ∷ l) [] = refl
 no-letter b w r c x (d ∷ l) (f ∷ []) = refl

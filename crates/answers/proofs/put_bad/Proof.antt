@@ -1,7 +1,7 @@
 -- `answers::put_bad` meets its contract. Assumes nothing.
 use native.Mathlib.Omega.{arith}
 use borrow.Author.Needs.{needs}
-use Rattle.words.proofs.Writing.{wrote-then, decimal-length}
+use Rattle.text.proofs.Writing.{wrote-then, decimal-length}
 use Rattle.answers.specs.Answers.{badText}
 use Rattle.answers.proofs.put_bad.Statement.{statement}
 use Rattle.answers.proofs.put_bad.Tie as tie

@@ -1,7 +1,7 @@
 -- `answers::put_event` meets its contract. Assumes nothing.
 use native.Mathlib.Omega.{arith}
 use borrow.Author.Needs.{needs}
-use Rattle.words.proofs.Writing.{wrote-then, decimal-length}
+use Rattle.text.proofs.Writing.{wrote-then, decimal-length}
 use Rattle.answers.proofs.Lengths.{answer-length, irq-length}
 use Rattle.answers.specs.Answers.{eventText}
 use Rattle.answers.proofs.put_event.Statement.{statement}

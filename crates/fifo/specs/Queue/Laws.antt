@@ -12,7 +12,8 @@ use Rattle.base.specs.Choice.{if_then_else_}
 use Rattle.base.specs.Tests.{each, every}
 use Rattle.fifo.specs.declared.Fifo.{Fifo}
 use Rattle.fifo.specs.Samples.{pushed, popped}
-use Rattle.fifo.specs.Queue.Places.{not-set, queue-layout, length-layout, zeros-replicate, replicate-zeros, free-zero}
+use Rattle.base.specs.Laws.{never}
+use Rattle.fifo.specs.Queue.Places.{queue-layout, length-layout, zeros-replicate, replicate-zeros, free-zero}
 use Rattle.fifo.specs.Queue.{queue, layout, emptyFifo, pushedTo, poppedFrom, fifoTests, isWorking, WorkingFifo}
 
 -- ---- the samples held, and the memory that holds them
@@ -36,7 +37,7 @@ layout-works f q e h o =
 -- ---- the test and the facts
 set-only-at : (o : Bool) (n : ℕ) → not o || eqb n 512 ≡ true → o ≡ true → n ≡ 512
 set-only-at true n h e = eqb-true n 512 h
-set-only-at false n h e = not-set e
+set-only-at false n h e = never e
 
 at-only-set : (o : Bool) (n : ℕ) → (o ≡ true → n ≡ 512) → not o || eqb n 512 ≡ true
 at-only-set true n h = eq-eqb n 512 (h refl)
@@ -133,7 +134,7 @@ popped-facts f h o = by (eqb (f .held) 0)
         → let g : Fifo = if b then f else record { held = f .held - 1; ovf = false } in
         (g .held ≤ 512) × (g .ovf ≡ true → g .held ≡ 512)
     by true = (h, o)
-    by false = (omega arith, λ s. not-set s)
+    by false = (omega arith, λ s. never s)
 
 pub held-pop : (f : Fifo) (m : List ℕ) → WorkingFifo f m → length (popped (queue f m)) ≡ poppedFrom f .held
 held-pop f m w = length-popped (queue f m) f (length-queue f m w)
@@ -151,4 +152,4 @@ pub queue-clear : queue emptyFifo (layout emptyFifo []) ≡ []
 queue-clear = queue-layout emptyFifo [] refl
 
 pub clear-works : WorkingFifo emptyFifo (layout emptyFifo [])
-clear-works = layout-works emptyFifo [] refl (omega arith) (λ s. not-set s)
+clear-works = layout-works emptyFifo [] refl (omega arith) (λ s. never s)

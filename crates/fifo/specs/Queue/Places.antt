@@ -8,11 +8,9 @@ use lib.ListN.{length, take, drop, replicate, length-append, length-replicate}
 use lib.Seq.{take-at, drop-at, length-take-le}
 use lib.Dec.{eqb}
 use borrow.Author.Tests.{eqb-true}
+use Rattle.base.specs.Laws.{both}
 use Rattle.fifo.specs.declared.Fifo.{Fifo}
 use Rattle.fifo.specs.Queue.{queue, layout, zeros, WorkingFifo}
-
-pub not-set : {A : Type 0} → false ≡ true → A
-not-set h = absurd (let z : _≡_ {A = ℕ} 0 1 = cc in omega arith)
 
 pub queue-layout : (f : Fifo) (q : List ℕ) → length q ≡ f .held → queue f (layout f q) ≡ q
 unfolding queue layout
@@ -21,10 +19,6 @@ queue-layout f q e = take-at q (replicate (512 - length q) 0) (f .held) e
 pub length-layout : (f : Fifo) (q : List ℕ) → length q ≤ 512 → length (layout f q) ≡ 512
 unfolding layout
 length-layout f q h = simp (length-append, length-replicate) (omega arith)
-
-both : (a b : Bool) → a && b ≡ true → (a ≡ true) × (b ≡ true)
-both true b h = (refl, h)
-both false b h = not-set h
 
 pub zeros-replicate : (l : List ℕ) → zeros l ≡ true → l ≡ replicate (length l) 0
 unfolding zeros

@@ -2,7 +2,7 @@
 use native.Mathlib.Omega.{arith}
 use borrow.Author.Needs.{needs}
 use Rattle.lines.proofs.Feeding.{advanced-line, advanced-part}
-use Rattle.lines.specs.Session.{talkOf}
+use Rattle.talk.specs.Session.{talkOf}
 use Rattle.lines.proofs.advance.Statement.{statement}
 use Rattle.lines.proofs.advance.Tie as tie
 

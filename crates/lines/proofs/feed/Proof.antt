@@ -4,7 +4,7 @@ use Prim.Native.Nat.{_-_}
 use native.Mathlib.Omega.{arith}
 use lib.ListN.{length}
 use borrow.Author.Needs.{needs}
-use Rattle.lines.specs.Session.{talkOf}
+use Rattle.talk.specs.Session.{talkOf}
 use Rattle.lines.proofs.Feeding.{Fed-so, fed-none, fed-more, fed-all, fed-full}
 use Rattle.lines.proofs.feed.Statement.{statement}
 use Rattle.lines.proofs.feed.Tie as tie

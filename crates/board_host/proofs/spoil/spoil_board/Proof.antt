@@ -1,0 +1,21 @@
+-- `board_host::spoil::spoil_board` meets its contract. Assumes nothing.
+use borrow.Author.Needs.{needs}
+use Rattle.board_host.proofs.spoil.spoil_board.Statement.{statement}
+use Rattle.board_host.proofs.spoil.spoil_board.Tie as tie
+use Rattle.board_host.specs.Spoils.{spoiled}
+
+pub spoil-board-spec : {M : Type 1} → statement M
+unfolding spoiled
+spoil-board-spec =
+    tie.close
+    (tie.spec
+    (λ c κs. search needs)
+    (λ c κs. search needs)
+    (λ c κs. search needs)
+    (λ c κs. search needs)
+    (λ c κs. search needs)
+    (λ c κs. search needs)
+    (λ c κs. search needs)
+    (λ c κs. search needs)
+    (λ c κs. search needs)
+    (λ c. simp (c .spoil-wiring .ensures, c .before .spoil-pins .ensures, c .before .before .spoil-registers .ensures, c .before .before .before .spoil-calibration .ensures, c .before .before .before .before .spoil-ports .ensures, c .before .before .before .before .before .spoil-outputs .ensures, c .before .before .before .before .before .before .spoil-clocks .ensures, c .before .before .before .before .before .before .before .spoil-channels .ensures, c .before .before .before .before .before .before .before .before .spoil-fifo .ensures)))

@@ -1,0 +1,14 @@
+-- `board_host::spoil::spoil_calibration` meets its contract. Assumes nothing.
+use borrow.Author.Tests.{ne-eqb}
+use Rattle.board_host.proofs.spoil.spoil_calibration.Statement.{statement}
+use Rattle.board_host.proofs.spoil.spoil_calibration.Tie as tie
+use Rattle.board_host.specs.Spoils.{spoiledCalibration}
+
+pub spoil-calibration-spec : {M : Type 1} → statement M
+unfolding spoiledCalibration
+spoil-calibration-spec =
+    tie.close
+    (tie.spec
+    (λ c. simp (c .match .keys1))
+    (λ c. simp (c .match .keys2))
+    (λ c. simp (ne-eqb _ _ (c .match .rest .1), ne-eqb _ _ (c .match .rest .0 .1))))

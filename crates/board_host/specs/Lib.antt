@@ -1,0 +1,2 @@
+pub mod Spoils
+pub mod Unfit

@@ -1,0 +1,14 @@
+-- `board_refusal::is_working` meets its contract. Assumes nothing.
+use borrow.Author.Needs.{needs}
+use Rattle.board_refusal.proofs.is_working.Statement.{statement}
+use Rattle.board_refusal.proofs.is_working.Tie as tie
+use Rattle.board_refusal.specs.Working.{workingBoard}
+
+pub is-working-spec : {M : Type 1} → statement M
+unfolding workingBoard
+is-working-spec =
+    tie.close
+    (tie.spec
+    (λ c κs. search needs)
+    (λ c κs. search needs)
+    (λ c. simp (c .is-working2 .ensures, c .before .is-working .ensures)))

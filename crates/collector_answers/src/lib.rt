@@ -1,0 +1,65 @@
+// How an answer of the bus is read: specs/Answers.antt.
+ghost use mathlib.Core.Path.{_≡_};
+ghost use Rattle.collector_answers.specs.Answers.{wide, STS, EF, contradicts, isFull, sampleAt};
+
+// What the bus brought: a byte, a word, or for a write anything.
+#[repr(C)]
+pub struct BusAnswer {
+    pub number: u16,
+}
+
+// A sample that is handed over: its channel and its signed code.
+#[repr(C)]
+pub struct Sample {
+    pub channel: u8,
+    pub code: i16,
+}
+
+// No byte: above 255.
+pub fn is_wide(a: u16) -> bool
+    ensures { λ r. ⌜ r ≡ wide a ⌝ }
+{
+    255 < a
+}
+
+// STS of Base + 8: a conversion is in progress.
+pub fn is_converting(a: u16) -> bool
+    ensures { λ r. ⌜ r ≡ STS a ⌝ }
+{
+    a / 128 % 2 == 1
+}
+
+// EF of Base + 7: the memory is empty.
+pub fn is_empty(a: u16) -> bool
+    ensures { λ r. ⌜ r ≡ EF a ⌝ }
+{
+    a / 128 % 2 == 1
+}
+
+// FF or OVF of Base + 7.
+pub fn is_full(a: u16) -> bool
+    ensures { λ r. ⌜ r ≡ isFull a ⌝ }
+{
+    (a / 32 % 2 == 1) | (a / 16 % 2 == 1)
+}
+
+// EF with HF or FF, or OVF without FF.
+pub fn is_contradictory(a: u16) -> bool
+    ensures { λ r. ⌜ r ≡ contradicts a ⌝ }
+{
+    let ef = a / 128 % 2 == 1;
+    let hf = a / 64 % 2 == 1;
+    let ff = a / 32 % 2 == 1;
+    let ovf = a / 16 % 2 == 1;
+    (ef & (hf | ff)) | (ovf & !ff)
+}
+
+// The sample of a word.
+pub fn sample_of(channel: u8, a: u16) -> Sample
+    ensures { λ r. ⌜ r ≡ sampleAt channel a ⌝ }
+{
+    Sample {
+        channel: channel,
+        code: converter::codes::code(a),
+    }
+}

@@ -1,0 +1,25 @@
+-- Which answers are refused (the specification, "Collector answers: 1, 15 once stuck, 17, 15 at the last poll, 16").
+use Prim.Native.Nat.{ℕ, _+_}
+use mathlib.Core.Bool.{Bool, not, _&&_}
+use mathlib.Core.List.{List, [], _∷_}
+use lib.Dec.{leb}
+use Rattle.base.specs.Checks.{Check, _refuses_}
+use Rattle.collector_phases.specs.declared.Collector.{Collector}
+use Rattle.collector_phases.specs.declared.Access.{Access}
+use Rattle.collector_phases.specs.Phases.{isByteRead, reads, isNone}
+use Rattle.collector_phases.specs.Fit.{fit}
+use Rattle.collector_answers.specs.Answers.{wide, STS, contradicts}
+
+-- this poll is the last that the limit allows
+abbrev pub lastPoll : Collector → Bool
+lastPoll c = leb (c .settings .limit) (c .polls + 1)
+
+abbrev pub readChecks : Access → Collector → ℕ → List Check
+readChecks x c a =
+    (isByteRead x && wide a) refuses 17
+    ∷ (reads 8 x && STS a && lastPoll c) refuses 15
+    ∷ (reads 7 x && contradicts a) refuses 16
+    ∷ []
+
+abbrev pub answerChecks : Access → Collector → ℕ → List Check
+answerChecks x c a = not (fit c) refuses 1 ∷ isNone x refuses 15 ∷ readChecks x c a

@@ -1,0 +1,53 @@
+-- `collector_replies::advance` meets its contract. Assumes nothing.
+use borrow.Author.Needs.{needs}
+use Rattle.collector_replies.proofs.advance.Statement.{statement}
+use Rattle.collector_replies.proofs.advance.Tie as tie
+
+pub advance-spec : {M : Type 1} → statement M
+advance-spec =
+    tie.close
+    (tie.spec
+    (λ c. search needs)
+    (λ c κs. search needs)
+    (λ c κs. search needs)
+    (λ c. search needs)
+    (λ c κs. search needs)
+    (λ c κs. search needs)
+    (λ c. search needs)
+    (λ c κs. search needs)
+    (λ c κs. search needs)
+    (λ c. search needs)
+    (λ c κs. search needs)
+    (λ c κs. search needs)
+    (λ c. search needs)
+    (λ c κs. search needs)
+    (λ c κs. search needs)
+    (λ c. search needs)
+    (λ c κs. search needs)
+    (λ c κs. search needs)
+    (λ c. search needs)
+    (λ c κs. search needs)
+    (λ c κs. search needs)
+    (λ c. search needs)
+    (λ c κs. search needs)
+    (λ c κs. search needs)
+    (λ c. search needs)
+    (λ c κs. search needs)
+    (λ c. search needs)
+    (λ c κs. search needs)
+    (λ c. search needs)
+    (λ c κs. search needs)
+    (λ c. search needs)
+    (λ c κs. search needs)
+    (λ c. simp (c .report .ensures, c .before .enter .ensures, c .before .before .enum-told .given .1))
+    (λ c. simp (c .report2 .ensures, c .before .answer-poll .ensures, c .before .before .enum-told2 .given .1))
+    (λ c. simp (c .report3 .ensures, c .before .enter2 .ensures, c .before .before .enum-told3 .given .1))
+    (λ c. simp (c .report4 .ensures, c .before .enter3 .ensures, c .before .before .enum-told4 .given .1))
+    (λ c. simp (c .report5 .ensures, c .before .enter4 .ensures, c .before .before .enum-told5 .given .1))
+    (λ c. simp (c .report6 .ensures, c .before .enter5 .ensures, c .before .before .enum-told6 .given .1))
+    (λ c. simp (c .report7 .ensures, c .before .enter6 .ensures, c .before .before .enum-told7 .given .1))
+    (λ c. simp (c .report8 .ensures, c .before .answer-look .ensures, c .before .before .enum-told8 .given .1))
+    (λ c. simp (c .answer-take .ensures, c .before .enum-told9 .given .1))
+    (λ c. simp (c .answer-drain .ensures, c .before .enum-told10 .given .1))
+    (λ c. simp (c .report9 .ensures, c .before .enum-told11 .given .1))
+    (λ c. simp (c .report10 .ensures, c .before .enum-told12 .given .1)))

@@ -1,0 +1,12 @@
+-- `digits::digit_of` meets its contract. Assumes nothing.
+use Rattle.digits.proofs.digit_of.Statement.{statement}
+use Rattle.digits.proofs.digit_of.Tie as tie
+use Rattle.digits.specs.Digits.{digitOf}
+
+pub digit-of-spec : {M : Type 1} → statement M
+unfolding digitOf
+digit-of-spec =
+    tie.close
+    (tie.spec
+    (λ c. simp (c .if1 .taken))
+    (λ c. simp (c .if1 .left)))

@@ -1,0 +1,14 @@
+-- `digits::hex_digit` meets its contract. Assumes nothing.
+use borrow.Author.Needs.{needs}
+use borrow.Author.Tests.{le-ltb, lt-ltb}
+use Rattle.digits.proofs.hex_digit.Statement.{statement}
+use Rattle.digits.proofs.hex_digit.Tie as tie
+
+pub hex-digit-spec : {M : Type 1} → statement M
+hex-digit-spec =
+    tie.close
+    (tie.spec
+    (λ c. search needs)
+    (λ c. search needs)
+    (λ c. simp (lt-ltb _ _ (c .if1 .taken)))
+    (λ c. simp (le-ltb _ _ (c .if1 .left))))

@@ -1,0 +1,15 @@
+-- `digits::hex_of` meets its contract. Assumes nothing.
+use borrow.Author.Needs.{needs}
+use Rattle.digits.proofs.hex_of.Statement.{statement}
+use Rattle.digits.proofs.hex_of.Tie as tie
+use Rattle.digits.specs.Digits.{hexOf}
+
+pub hex-of-spec : {M : Type 1} → statement M
+unfolding hexOf
+hex-of-spec =
+    tie.close
+    (tie.spec
+    (λ c. search needs)
+    (λ c. simp (c .if1 .taken))
+    (λ c. simp (c .if2 .taken, c .before .if1 .left))
+    (λ c. simp (c .if2 .left, c .before .if1 .left)))

@@ -1,0 +1,11 @@
+-- `talk::begin` meets its contract. Assumes nothing.
+use borrow.Author.Needs.{needs}
+use Rattle.talk.proofs.begin.Statement.{statement}
+use Rattle.talk.proofs.begin.Tie as tie
+
+pub begin-spec : {M : Type 1} → statement M
+begin-spec =
+    tie.close
+    (tie.spec
+    (λ c κs. search needs)
+    (λ c. simp (c .fresh .ensures)))

@@ -1,0 +1,11 @@
+-- `talk::is_begun` meets its contract. Assumes nothing.
+use borrow.Author.Needs.{needs}
+use Rattle.talk.proofs.is_begun.Statement.{statement}
+use Rattle.talk.proofs.is_begun.Tie as tie
+
+pub is-begun-spec : {M : Type 1} → statement M
+is-begun-spec =
+    tie.close
+    (tie.spec
+    (λ c κs. search needs)
+    (λ c. c .is-begun .ensures))

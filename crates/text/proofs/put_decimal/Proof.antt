@@ -1,0 +1,17 @@
+-- `text::put_decimal` meets its contract. Assumes nothing.
+use borrow.Author.Needs.{needs}
+use Rattle.text.proofs.Writing.{wrote-as, spelled-part}
+use Rattle.text.proofs.put_decimal.Statement.{statement}
+use Rattle.text.proofs.put_decimal.Tie as tie
+
+pub put-decimal-spec : {M : Type 1} → statement M
+put-decimal-spec =
+    tie.close
+    (tie.spec
+    (λ c κs. search needs)
+    (λ c. search needs)
+    (λ c. search needs)
+    (λ c. search needs)
+    (λ c κs. search needs)
+    (λ c. search needs)
+    (λ c. wrote-as (spelled-part (c .before .before .before .before .before .before .before .spell .ensures)) (c .before .before .copy .ensures)))

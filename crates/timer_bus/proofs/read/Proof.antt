@@ -1,0 +1,15 @@
+-- `timer_bus::read` meets its contract. Assumes nothing.
+use borrow.Author.Needs.{needs}
+use Rattle.timer_bus.proofs.read.Statement.{statement}
+use Rattle.timer_bus.proofs.read.Tie as tie
+use Rattle.timer_bus.specs.Bus.{timerRead}
+
+pub read-spec : {M : Type 1} → statement M
+unfolding timerRead
+read-spec =
+    tie.close
+    (tie.spec
+    (λ c κs. search needs)
+    (λ c κs. search needs)
+    (λ c κs. search needs)
+    (λ c. simp (c .put-counter .ensures, c .before .before .read .ensures, c .before .before .before .counter-of .ensures)))

@@ -1,0 +1,14 @@
+-- `timer_bus::refuses_count` meets its contract. Assumes nothing.
+use borrow.Author.Needs.{needs}
+use Rattle.timer_bus.proofs.refuses_count.Statement.{statement}
+use Rattle.timer_bus.proofs.refuses_count.Tie as tie
+use Rattle.timer_bus.specs.Bus.{countRefused}
+
+pub refuses-count-spec : {M : Type 1} → statement M
+unfolding countRefused
+refuses-count-spec =
+    tie.close
+    (tie.spec
+    (λ c κs. search needs)
+    (λ c κs. search needs)
+    (λ c. simp (c .refuses-byte .ensures, c .before .counter-of .ensures)))

@@ -1,0 +1,18 @@
+-- `timer_bus::write_control` meets its contract. Assumes nothing.
+use borrow.Author.Needs.{needs}
+use Rattle.timer_bus.proofs.write_control.Statement.{statement}
+use Rattle.timer_bus.proofs.write_control.Tie as tie
+use Rattle.timer_bus.specs.Bus.{controlWritten}
+
+pub write-control-spec : {M : Type 1} → statement M
+unfolding controlWritten
+write-control-spec =
+    tie.close
+    (tie.spec
+    (λ c κs. search needs)
+    (λ c κs. search needs)
+    (λ c κs. search needs)
+    (λ c κs. search needs)
+    (λ c κs. search needs)
+    (λ c. simp (rw (c .before .refuses-control .ensures) at (c .if1 .taken)))
+    (λ c. simp (c .move-counter .ensures, c .before .write-word .ensures, c .before .before .counter-of .ensures, c .before .before .before .select-of .ensures, rw (c .before .before .before .before .before .refuses-control .ensures) at (c .before .before .before .before .if1 .left))))

@@ -1,0 +1,29 @@
+-- Single codes and range codes of the specification's "Volts" and the manual's table 9.4; marked case 6 is in the table of the crate marked.
+use mathlib.Core.Path.{_≡_, refl}
+use mathlib.Core.Bool.{false}
+use lib.IntN.{ℤ, pos, negℤ}
+use lib.Ieee.{fin, round}
+use Rattle.volts.specs.declared.Voltage.the-variants.{Volts, Refused}
+use Rattle.volts.specs.Volts.{whole, readingOf, voltage}
+
+-- The code -15008 at ±5 V, range code 0, is -600320 over 2 ^ 18.
+pub example-whole : readingOf (negℤ (pos 15008)) 0 ≡ whole (negℤ (pos 600320))
+example-whole = refl
+
+-- Code 0 of a bipolar range and code -32768 of a unipolar one are +0.0.
+pub zero-bipolar : voltage (readingOf (pos 0) 0) ≡ Volts (fin false 0 (pos 0))
+unfolding round
+zero-bipolar = refl
+
+pub zero-unipolar : voltage (readingOf (negℤ (pos 32768)) 12) ≡ Volts (fin false 0 (pos 0))
+unfolding round
+zero-unipolar = refl
+
+-- Range codes 4 to 7 and 16 are refused 13, whatever the code.
+pub refused-13 : (code : ℤ) → (voltage (readingOf code 4) ≡ Refused 13) × (voltage (readingOf code 5) ≡ Refused 13)
+    × (voltage (readingOf code 6) ≡ Refused 13) × (voltage (readingOf code 7) ≡ Refused 13) × (voltage (readingOf code 16) ≡ Refused 13)
+refused-13 code = (refl, refl, refl, refl, refl)
+
+-- "Range codes 9 - 11 are equivalent to range codes 0 - 2."
+pub equivalent-ranges : (code : ℤ) → (readingOf code 9 ≡ readingOf code 0) × (readingOf code 10 ≡ readingOf code 1) × (readingOf code 11 ≡ readingOf code 2)
+equivalent-ranges code = (refl, refl, refl)
