@@ -1,220 +1,249 @@
 #!/usr/bin/env python3
-"""A second model of the collector, and of whole scans.
+"""A second model of the collector and of whole scans.
 
-Made from the specification ("The collector", refusals 1 and 11 to 17) and from
-chapter 5.4 of the manual.
+Made from the specification ("The collector", "Refusal numbers"), the manual
+(chapters 5.4 and 9.2, registers 7 and 8) and the readings of docs/DECISIONS.md
+alone, without sight of the collector's code or definitions.  What the code may
+count is read off something kept here: polls are the reads of 8 in a history of
+accesses, the next channel follows from the samples handed over, reads left are
+a queue of reads to make, and whole scans are found by trying the longest part
+first.  The papers leave three things open, which a case can show: the numbers
+of the phases (here the order of the accesses, then stuck), the polls reported
+with refusal 1 (those of the record) and the reads left outside a drain (none
+after a start, otherwise as they stand).
 
     python3 collector.py < cases > expected
 
-Operations of a line, digits in hex:
-    lLLHH   low and high            jHH     jumpers (0 to 3 are A to D)
-    gHH     range code              kHH     clock (0 external, else internal)
-    mHHHH   poll limit              s       start with these settings
-    i       put the settings into the record
-    pHH cHH oHHHH dHHHH     phase, next channel, polls, reads left of the record
-    q       the access              aHHHH   an answer
-    nCCCCHHHH   an answer CCCC times: samples and gaps before the last; the last
-    h       the record              f       is it fit?
-    zLLHHNNNN   whole scans of N samples 0, 1, 2 .. : how many, and the last
+The operations of a line and the shape of their results are those of the case
+program, crates/collector_cases.
 """
+from collections import deque, namedtuple
+from functools import lru_cache, partialmethod
+
 import script
 
-CHANNELS = {0: set(range(32)), 1: set(range(16)), 2: set(range(16)) | set(range(24, 32)), 3: set(range(24))}
+SHAPES = {"l": (2, 2), "j": (2,), "g": (2,), "k": (2,), "m": (4,), "s": (), "i": (), "p": (2,), "c": (2,), "o": (4,), "d": (4,),
+          "q": (), "a": (4,), "n": (4, 4), "h": (), "f": (), "z": (2, 2, 4)}
+
+# The channels of jumpers A to D (chapter 5.4); other numbers have none (D14).
+CHANNELS = ({*range(32)}, {*range(16)}, {*range(16)} | {*range(24, 32)}, {*range(24)})
+
+# The codes of chapter 9.2's table that are not marked invalid.
 RANGE_CODES = {0, 1, 2, 3, 8, 9, 10, 11, 12, 13, 14, 15}
-PHASES = ["stop", "poll", "range", "clear", "low", "high", "go", "look", "take", "drain", "stuck"]
-SETTINGS = dict(low=0, high=3, jumpers=0, code=0, clock=0, limit=3)
+
+STS = 0x80                                  # of a read of 8
+EF, HF, FF, OVF = 0x80, 0x40, 0x20, 0x10    # of a read of 7
+MEMORY = 512
+
+FIRST, POLL, LOOK, WORD, DRAIN, STUCK = 0, 1, 7, 8, 9, 10
+
+Settings = namedtuple("Settings", "low high jumpers code clock limit")
 
 
-class Refused(Exception):
-    """A refusal; nothing is handed over."""
+def bad_range(low, high):
+    return low > high or high > 31
 
 
-def channels_of(settings):
-    return set(range(settings["low"], settings["high"] + 1))
+@lru_cache(maxsize=None)
+def start_refusal(asked):
+    """The first of 14, 11, 12, 13 that a start with these settings meets, or None."""
+    if not 1 <= asked.limit <= 1000:
+        return 14
+    if bad_range(asked.low, asked.high):
+        return 11
+    there = CHANNELS[asked.jumpers] if asked.jumpers < len(CHANNELS) else set()
+    if not there.issuperset(range(asked.low, asked.high + 1)):
+        return 12
+    return None if asked.code in RANGE_CODES else 13
 
 
-def judge(settings):
-    """Raises the refusal of a start with these settings, if there is one."""
-    if settings["limit"] not in range(1, 1001):
-        raise Refused(14)
-    if not settings["low"] <= settings["high"] <= 31:
-        raise Refused(11)
-    if channels_of(settings) - CHANNELS.get(settings["jumpers"], set()):
-        raise Refused(12)
-    if settings["code"] not in RANGE_CODES:
-        raise Refused(13)
+@lru_cache(maxsize=None)
+def accesses(given):
+    """The access of each phase: the seven of a start, the look, the one word, a word of a drain."""
+    clock = 3 if given.clock else 2
+    return ("W9=0", "R8", "W11=%d" % given.code, "W7=2", "W2=%d" % given.low, "W3=%d" % given.high, "W9=%d" % clock, "R7", "X0", "X0")
+
+
+def contradicts(status):
+    """What no memory is: empty and half full or full, or overflowed and not full."""
+    return bool(status & EF and status & (HF | FF) or status & OVF and not status & FF)
+
+
+def signed(word):
+    return word - 0x10000 if word & 0x8000 else word
 
 
 class Collector:
-    """The record as it is lent: nothing holds its numbers together."""
-
-    def __init__(self, settings):
-        self.settings = dict(settings)
+    def __init__(self, given):
+        self.given = given
         self.begin()
 
     def begin(self):
-        self.phase, self.channel, self.polls, self.left = "stop", self.settings["low"], 0, 0
+        """As a start or a restart has it (D9).  The history has a mark for each answer taken since, 8 where offset 8 was read."""
+        self.phase = FIRST
+        self.history = bytearray()
+        self.pending = deque()
+        self.set_next(self.given.low)
 
-    def fit(self):
-        try:
-            judge(self.settings)
-        except Refused:
+    # The numbers of the record, and a host's own in their place.
+    def set_phase(self, phase):
+        self.phase = phase
+
+    def polls(self):
+        return self.history.count(b"8")
+
+    def set_polls(self, polls):
+        self.history = bytearray(b"8" * polls)
+
+    def left(self):
+        return len(self.pending)
+
+    def set_left(self, left):
+        self.pending = deque(["X0"] * left)
+
+    def next(self):
+        """The channel of the next sample: as many steps on, from low to high and round, as samples were handed over."""
+        if not self.handed:
+            return self.first
+        low, width = self.given.low, self.given.high - self.given.low + 1
+        return low + (self.first - low + self.handed) % width
+
+    def set_next(self, channel):
+        self.first = channel
+        self.handed = 0
+
+    def set_given(self, given):
+        self.set_next(self.next())
+        self.given = given
+
+    def is_fit(self):
+        given, polls = self.given, self.polls()
+        if start_refusal(given) or self.phase > STUCK or not given.low <= self.next() <= given.high or polls > given.limit:
             return False
-        limit = self.settings["limit"]
-        most = {"stop": 0, "poll": limit - 1}.get(self.phase, limit)
-        return (self.phase in PHASES
-                and self.channel in channels_of(self.settings)
-                and self.polls <= most
-                and (self.phase != "drain" or self.left in range(1, 513)))
-
-    def usable(self):
-        if not self.fit():
-            raise Refused(1)
-        if self.phase == "stuck":
-            raise Refused(15)
+        if self.phase == FIRST:
+            return polls == 0
+        if self.phase == POLL:
+            return polls < given.limit
+        return self.phase != DRAIN or 1 <= self.left() <= MEMORY
 
     def access(self):
-        self.usable()
-        s = self.settings
-        return {"stop": "W9=0", "poll": "R8", "range": "W11=%d" % s["code"],
-                "clear": "W7=2", "low": "W2=%d" % s["low"],
-                "high": "W3=%d" % s["high"],
-                "go": "W9=%d" % (3 if s["clock"] else 2),
-                "look": "R7", "take": "X0", "drain": "X0"}[self.phase]
+        if not self.is_fit():
+            return "!1"
+        return "!15" if self.phase == STUCK else accesses(self.given)[self.phase]
 
     def take(self, number):
-        """What an answer hands over, and the polls that go with it."""
-        self.usable()
-        if self.phase in ("poll", "look") and number >= 0x100:
-            raise Refused(17)
-        before = self.phase
-        if before in ("poll", "look", "take", "drain"):
-            return getattr(self, "saw_" + before)(number)
-        self.phase = PHASES[PHASES.index(before) + 1]       # a write
-        return ("run" if before == "go" else "-"), self.polls
+        """An answer: what is handed over, and the polls reported with it, those of the start that a gap ends (D5)."""
+        access = self.access()
+        if access[0] == "!":
+            return access, self.polls()
+        if access[0] == "R" and number > 255:
+            return "!17", self.polls()
+        if access == "R7" and contradicts(number):
+            return "!16", self.polls()
+        self.history += b"8" if access == "R8" else b"."
+        polls = self.polls()
+        if access == "R8":
+            return self.polled(number), polls
+        if access == "R7":
+            return self.looked(number), polls
+        return (self.word_read(number) if access == "X0" else self.written()), polls
 
-    def saw_poll(self, status):
-        self.polls += 1
-        if status < 0x80:
-            self.phase = "range"
-        elif self.polls == self.settings["limit"]:
-            self.phase = "stuck"
-            raise Refused(15)
-        return "-", self.polls
+    def written(self):
+        self.phase += 1
+        return "run" if self.phase == LOOK else "-"
 
-    def saw_look(self, status):
-        flags = {name for name, bit in (("EF", 0x80), ("HF", 0x40), ("FF", 0x20), ("OVF", 0x10)) if status & bit}
-        if "EF" in flags and flags & {"HF", "FF"} or "OVF" in flags and "FF" not in flags:
-            raise Refused(16)
-        if flags & {"FF", "OVF"}:
-            self.phase, self.left = "drain", 512
-        elif "EF" not in flags:
-            self.phase = "take"
-        return "-", self.polls
+    def polled(self, status):
+        if not status & STS:
+            self.phase += 1
+        elif self.polls() == self.given.limit:
+            self.phase = STUCK
+            return "!15"
+        return "-"
 
-    def sample(self, word):
-        shown = "%d=%d" % (self.channel, word - 0x10000 if word >= 0x8000 else word)
-        turns = sorted(channels_of(self.settings))
-        self.channel = turns[(turns.index(self.channel) + 1) % len(turns)]
-        return shown
+    def looked(self, status):
+        if status & (FF | OVF):
+            self.phase = DRAIN
+            self.set_left(MEMORY)
+        elif not status & EF:
+            self.phase = WORD
+        return "-"
 
-    def saw_take(self, word):
-        self.phase = "look"
-        return self.sample(word), self.polls
-
-    def saw_drain(self, word):
-        shown, polls = self.sample(word), self.polls
-        self.left -= 1
-        if self.left == 0:
-            self.begin()
-            shown += "|"
-        return shown, polls
+    def word_read(self, word):
+        shown = "%d=%d" % (self.next(), signed(word))
+        self.handed += 1
+        if self.phase == WORD:
+            self.phase = LOOK
+            return shown
+        self.pending.popleft()
+        if self.pending:
+            return shown
+        self.begin()
+        return shown + "|"
 
 
-class CollectorScript:
-    """The operations of the script language."""
+def whole_scans(samples, low, high):
+    """The longest part from the front that ends with a sample of the channel high, the first being of low."""
+    channels = []
+    for _ in samples:
+        channels.append(low if not channels or channels[-1] == high else channels[-1] + 1)
+    whole = (length for length in range(len(samples), 0, -1) if channels[length - 1] == high)
+    return samples[:0 if bad_range(low, high) else next(whole, 0)]
 
-    SHAPES = {"l": (2, 2), "j": (2,), "g": (2,), "k": (2,), "m": (4,), "s": (), "i": (), "p": (2,), "c": (2,), "o": (4,),
-              "d": (4,), "q": (), "a": (4,), "n": (4, 4), "h": (), "f": (), "z": (2, 2, 4)}
+
+class Bench:
+    """Settings and a record, as a line finds them: channels 0 to 3, 3 polls; a record of zeros."""
 
     def __init__(self):
-        self.settings = dict(SETTINGS)
-        self.collector = Collector(dict.fromkeys(SETTINGS, 0))
+        self.settings = Settings(0, 3, 0, 0, 0, 3)
+        self.collector = Collector(Settings(0, 0, 0, 0, 0, 0))
+
+    def choose(self, name, number):
+        self.settings = self.settings._replace(**{name: number})
 
     def do_l(self, low, high):
-        self.settings.update(low=low, high=high)
+        self.choose("low", low)
+        self.choose("high", high)
 
-    def do_j(self, jumpers):
-        self.settings["jumpers"] = jumpers
+    do_j, do_g = partialmethod(choose, "jumpers"), partialmethod(choose, "code")
+    do_k, do_m = partialmethod(choose, "clock"), partialmethod(choose, "limit")
 
-    def do_g(self, code):
-        self.settings["code"] = code
+    def put(self, name, number):
+        getattr(self.collector, "set_" + name)(number)
 
-    def do_k(self, clock):
-        self.settings["clock"] = clock
+    do_p, do_c = partialmethod(put, "phase"), partialmethod(put, "next")
+    do_o, do_d = partialmethod(put, "polls"), partialmethod(put, "left")
 
-    def do_m(self, limit):
-        self.settings["limit"] = limit
+    def do_i(self):
+        self.collector.set_given(self.settings)
 
     def do_s(self):
-        try:
-            judge(self.settings)
-        except Refused as refusal:
-            return " !%s" % refusal
+        refusal = start_refusal(self.settings)
+        if refusal:
+            return " !%d" % refusal
         self.collector = Collector(self.settings)
         return " ok"
 
-    def do_i(self):
-        self.collector.settings = dict(self.settings)
-
-    def do_p(self, number):
-        self.collector.phase = PHASES[number] if number < len(PHASES) else number
-
-    def do_c(self, channel):
-        self.collector.channel = channel
-
-    def do_o(self, polls):
-        self.collector.polls = polls
-
-    def do_d(self, left):
-        self.collector.left = left
-
     def do_q(self):
-        try:
-            return " " + self.collector.access()
-        except Refused as refusal:
-            return " !%s" % refusal
+        return " " + self.collector.access()
 
     def do_a(self, number):
-        try:
-            shown, polls = self.collector.take(number)
-        except Refused as refusal:
-            shown, polls = "!%s" % refusal, self.collector.polls
-        return " %s/%d" % (shown, polls)
+        return " %s/%d" % self.collector.take(number)
 
     def do_n(self, count, number):
-        shown = [self.do_a(number) for _ in range(count - 1)]
-        samples = sum("=" in text for text in shown)
-        gaps = sum("|" in text for text in shown)
-        return " %d+%d" % (samples, gaps) + self.do_a(number)
+        before = [self.collector.take(number)[0] for _ in range(count - 1)]
+        return " %d+%d%s" % (sum("=" in shown for shown in before), sum("|" in shown for shown in before), self.do_a(number))
 
     def do_h(self):
         c = self.collector
-        phase = PHASES.index(c.phase) if c.phase in PHASES else c.phase
-        return " %d.%d.%d.%d" % (phase, c.channel, c.polls, c.left)
+        return " %d.%d.%d.%d" % (c.phase, c.next(), c.polls(), c.left())
 
     def do_f(self):
-        return " fit" if self.collector.fit() else " unfit"
+        return " fit" if self.collector.is_fit() else " unfit"
 
-    def do_z(self, low, high, number):
-        run = list(range(number % 1025))
-        scan = range(low, high + 1)
-        if not scan or high > 31:
-            return " 0"
-        while len(run) % len(scan):
-            run.pop()
-        return " %d" % len(run) + (":%d" % run[-1] if run else "")
+    def do_z(self, low, high, count):
+        part = whole_scans(range(count % 1025), low, high)
+        return " %d" % len(part) + (":%d" % part[-1] if part else "")
 
 
 if __name__ == "__main__":
-    script.run(CollectorScript.SHAPES, CollectorScript)
+    script.run(SHAPES, Bench)

@@ -1,0 +1,84 @@
+/* Sizes and offsets of the records of cowriestep.h, as a host written without that header would have to know them. */
+#include <stddef.h>
+#include "cowriestep.h"
+
+#define SIZE(type, n) _Static_assert(sizeof(struct type) == (n), "the size of " #type)
+#define OFFSET(type, field, n) _Static_assert(offsetof(struct type, field) == (n), "the offset of " #type "." #field)
+
+SIZE(dmm32_converter, 7);
+SIZE(dmm32_flags, 3);
+SIZE(dmm32_requests, 9);
+SIZE(dmm32_fifo, 4);
+SIZE(dmm32_registers, 4);
+SIZE(dmm32_codes, 8);
+SIZE(dmm32_load, 4);
+SIZE(dmm32_outputs, 14);
+SIZE(dmm32_count, 8);
+SIZE(dmm32_counter_bytes, 6);
+SIZE(dmm32_counter, 16);
+SIZE(dmm32_timer, 48);
+SIZE(dmm32_clocks, 52);
+SIZE(dmm32_lines, 3);
+SIZE(dmm32_ports, 7);
+SIZE(dmm32_calibration, 13);
+SIZE(dmm32_pins, 2);
+SIZE(dmm32_wiring, 2);
+SIZE(dmm32_board, 114);
+_Static_assert(_Alignof(struct dmm32_board) == 2, "the alignment of dmm32_board");
+OFFSET(dmm32_board, converter.low, 0);
+OFFSET(dmm32_board, converter.high, 1);
+OFFSET(dmm32_board, converter.selected, 2);
+OFFSET(dmm32_board, converter.channel, 3);
+OFFSET(dmm32_board, converter.converting, 4);
+OFFSET(dmm32_board, converter.scanen, 5);
+OFFSET(dmm32_board, converter.clken, 6);
+OFFSET(dmm32_board, requests.threshold, 7);
+OFFSET(dmm32_board, requests.fifoen, 8);
+OFFSET(dmm32_board, requests.clksel, 9);
+OFFSET(dmm32_board, requests.adinte, 10);
+OFFSET(dmm32_board, requests.dinte, 11);
+OFFSET(dmm32_board, requests.tinte, 12);
+OFFSET(dmm32_board, requests.flags, 13);
+OFFSET(dmm32_board, fifo.held, 16);
+OFFSET(dmm32_board, fifo.ovf, 18);
+OFFSET(dmm32_board, registers, 20);
+OFFSET(dmm32_board, outputs.codes, 24);
+OFFSET(dmm32_board, outputs.load, 32);
+OFFSET(dmm32_board, outputs.load.code, 34);
+OFFSET(dmm32_board, outputs.lsb, 36);
+OFFSET(dmm32_board, outputs.busy, 37);
+OFFSET(dmm32_board, clocks.timer.counter0, 38);
+OFFSET(dmm32_counter, count.count_register, 2);
+OFFSET(dmm32_counter, count.element, 4);
+OFFSET(dmm32_counter, count.out, 6);
+OFFSET(dmm32_counter, count.waiting, 7);
+OFFSET(dmm32_counter, count.loaded, 8);
+OFFSET(dmm32_counter, bytes.latch, 10);
+OFFSET(dmm32_counter, bytes.latched, 12);
+OFFSET(dmm32_counter, bytes.halfread, 13);
+OFFSET(dmm32_counter, bytes.first, 14);
+OFFSET(dmm32_counter, bytes.halfwritten, 15);
+OFFSET(dmm32_board, clocks.hundred, 86);
+OFFSET(dmm32_board, clocks.thousand, 88);
+OFFSET(dmm32_board, ports.control, 90);
+OFFSET(dmm32_board, ports.latches, 91);
+OFFSET(dmm32_board, ports.pins, 94);
+OFFSET(dmm32_board, calibration.value, 97);
+OFFSET(dmm32_board, calibration.trim, 102);
+OFFSET(dmm32_board, pins.din, 110);
+OFFSET(dmm32_board, wiring.inputs, 112);
+SIZE(dmm32_settings, 8);
+SIZE(dmm32_collector, 14);
+SIZE(dmm32_start, 16);
+SIZE(dmm32_access, 4);
+SIZE(dmm32_bus_answer, 2);
+SIZE(dmm32_sample, 4);
+SIZE(dmm32_taken, 22);
+OFFSET(dmm32_settings, limit, 6);
+OFFSET(dmm32_collector, phase, 8);
+OFFSET(dmm32_collector, polls, 10);
+OFFSET(dmm32_collector, left, 12);
+OFFSET(dmm32_taken, polls, 14);
+OFFSET(dmm32_taken, handed, 16);
+OFFSET(dmm32_taken, sample, 18);
+OFFSET(dmm32_sample, code, 2);
