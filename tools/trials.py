@@ -112,11 +112,12 @@ class Programs:
 
     def named_runs(self):
         def text(*path):
-            path = os.path.join(ROOT, "crates", *path)
+            path = os.path.join(ROOT, *path)
             return open(path, "rb").read() if os.path.exists(path) else b""
 
-        names = ["timer_cases", "board_cases", "collector_cases", "volts_cases", "archive_cases", "session", "session_refusals", "session_bad"]
-        return [("session" if "session" in n else n, n, text(n, "stdin"), text(n, "stdout")) for n in names]
+        names = ["timer_cases", "board_cases", "collector_cases", "volts_cases", "archive_cases", "session"]
+        runs = [(n, n, text("crates", n, "stdin"), text("crates", n, "stdout")) for n in names]
+        return runs + [("session", "session/" + n, text("tests", "session", n + ".in"), text("tests", "session", n + ".out")) for n in ("refusals", "bad")]
 
     def longer_runs(self):
         def said(script, *words, given=b""):

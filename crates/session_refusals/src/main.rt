@@ -1,5 +1,0 @@
-// The session program on lines that are refused and lines that raise a request. What it must print, the file stdout, was worked out by hand from the
-// specification; docs/SESSION-CASES.md gives the reason for each line.
-fn main() {
-    terminal::run();
-}
