@@ -7,8 +7,8 @@ use Rattle.answers.proofs.put_answer.Tie as tie
 pub put-answer-spec : {M : Type 1} → statement M
 unfolding answerText
 put-answer-spec =
-    tie.close
-    (tie.spec
+    let met =
+    tie.spec
     (λ c. search needs)
     (λ c. search needs)
     (λ c κs. search needs)
@@ -25,4 +25,5 @@ put-answer-spec =
     (λ c. search needs)
     (λ c. rw (c .before .before .before .before .before .answer2 .given .1) (c .before .before .put-word-answer .ensures))
     (λ c. search needs)
-    (λ c. rw (c .before .before .before .before .before .answer3 .given .1) (c .before .before .put-refusal .ensures)))
+    (λ c. rw (c .before .before .before .before .before .answer3 .given .1) (c .before .before .put-refusal .ensures))
+    in tie.close met

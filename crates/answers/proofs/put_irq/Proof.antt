@@ -7,10 +7,11 @@ use Rattle.answers.proofs.put_irq.Tie as tie
 
 pub put-irq-spec : {M : Type 1} → statement M
 put-irq-spec =
-    tie.close
-    (tie.spec
+    let met =
+    tie.spec
     (λ c. search needs)
     (λ c κs. search needs)
     (λ c. search needs)
     (λ c. rw (c .before .before .before .before .before .if1 .taken) (c .before .before .copy .ensures))
-    (λ c. rw (c .if1 .left) (nothing-written _ _)))
+    (λ c. rw (c .if1 .left) (nothing-written _ _))
+    in tie.close met

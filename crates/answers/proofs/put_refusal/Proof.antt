@@ -6,10 +6,11 @@ use Rattle.answers.proofs.put_refusal.Tie as tie
 
 pub put-refusal-spec : {M : Type 1} → statement M
 put-refusal-spec =
-    tie.close
-    (tie.spec
+    let met =
+    tie.spec
     (λ c. search needs)
     (λ c κs. search needs)
     (λ c κs. search needs)
     (λ c. search needs)
-    (λ c. wrote-then (c .before .before .before .before .before .before .copy .ensures) (c .before .before .put-decimal .ensures)))
+    (λ c. wrote-then (c .before .before .before .before .before .before .copy .ensures) (c .before .before .put-decimal .ensures))
+    in tie.close met

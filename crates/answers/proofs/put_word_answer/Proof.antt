@@ -6,10 +6,11 @@ use Rattle.answers.proofs.put_word_answer.Tie as tie
 
 pub put-word-answer-spec : {M : Type 1} → statement M
 put-word-answer-spec =
-    tie.close
-    (tie.spec
+    let met =
+    tie.spec
     (λ c. search needs)
     (λ c κs. search needs)
     (λ c κs. search needs)
     (λ c. search needs)
-    (λ c. wrote-then (c .before .before .before .before .before .before .copy .ensures) (c .before .before .put-word .ensures)))
+    (λ c. wrote-then (c .before .before .before .before .before .before .copy .ensures) (c .before .before .put-word .ensures))
+    in tie.close met

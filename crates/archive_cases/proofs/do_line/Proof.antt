@@ -41,8 +41,8 @@ returns c = search needs
 
 pub do-line-spec : {M : Type 1} → statement M
 do-line-spec =
-    tie.close
-    (tie.spec
+    let met =
+    tie.spec
     Inv-loop
     μ-loop
     rounds-requires
@@ -53,4 +53,5 @@ do-line-spec =
     loop-again
     same-length
     same-length-2
-    returns)
+    returns
+    in tie.close met

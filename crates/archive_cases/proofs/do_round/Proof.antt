@@ -44,8 +44,8 @@ returns c = search needs
 
 pub do-round-spec : {M : Type 1} → statement M
 do-round-spec =
-    tie.close
-    (tie.spec
+    let met =
+    tie.spec
     Inv-loop
     μ-loop
     places-requires
@@ -57,4 +57,5 @@ do-round-spec =
     loop-again
     same-length
     same-length-2
-    returns)
+    returns
+    in tie.close met

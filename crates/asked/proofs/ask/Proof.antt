@@ -12,8 +12,8 @@ use Rattle.asked.proofs.ask.Tie as tie
 
 pub ask-spec : {M : Type 1} → statement M
 ask-spec =
-    tie.close
-    (tie.spec
+    let met =
+    tie.spec
     (λ c. search needs)
     (λ c. search needs)
     (λ c. search needs)
@@ -24,4 +24,5 @@ ask-spec =
     (λ c. simp (c .before .command2 .given .1))
     (λ c. simp (c .enum-told .given .1))
     (λ c. ap (λ (z : ℤ). Happen (Event.ConversionEnd z)) (toZ-ofZ {w = w16} {z = c .code .result} (record { sfits = c .code .ok }) ∙ c .code .ensures) ∙ sym (ap askedBy (c .before .before .command3 .given .1)))
-    (λ c. simp (c .enum-told2 .given .1)))
+    (λ c. simp (c .enum-told2 .given .1))
+    in tie.close met

@@ -6,8 +6,8 @@ use Rattle.board.proofs.apply.Tie as tie
 
 pub apply-spec : {M : Type 1} → statement M
 apply-spec =
-    tie.close
-    (tie.spec
+    let met =
+    tie.spec
     (λ c. search needs)
     (λ c. search needs)
     (λ c κs. search needs)
@@ -21,4 +21,5 @@ apply-spec =
     (λ c. search needs)
     (λ c. arms.applied _ _ (c .before .before .before .before .before .effect .given .1) (c .before .before .push .ensures))
     (λ c. search needs)
-    (λ c. arms.applied _ _ (c .before .before .before .before .enum-told3 .given .1) (c .before .before .clear .ensures)))
+    (λ c. arms.applied _ _ (c .before .before .before .before .enum-told3 .given .1) (c .before .before .clear .ensures))
+    in tie.close met

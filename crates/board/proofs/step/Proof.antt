@@ -40,8 +40,8 @@ returns-2 c =
 
 pub step-spec : {M : Type 1} → statement M
 step-spec =
-    tie.close
-    (tie.spec
+    let met =
+    tie.spec
     refusal-of-requires
     refuse-requires
     same-length
@@ -50,4 +50,5 @@ step-spec =
     run-requires
     same-length-3
     same-length-4
-    returns-2)
+    returns-2
+    in tie.close met

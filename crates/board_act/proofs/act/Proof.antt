@@ -9,8 +9,8 @@ use Rattle.board_act.specs.Act.{acted, eepromActed}
 pub act-spec : {M : Type 1} → statement M
 unfolding acted eepromActed
 act-spec =
-    tie.close
-    (tie.spec
+    let met =
+    tie.spec
     (λ c. search needs)
     (λ c κs. search needs)
     (λ c κs. search needs)
@@ -49,4 +49,5 @@ act-spec =
     (λ c. (
       simp (c .done5 .ensures, c .before .before .before .end-transfer .ensures .0, c .before .before .before .before .before .enum-told3 .given .1),
       simp (c .before .before .before .before .before .enum-told3 .given .1) (c .before .before .before .end-transfer .ensures .1),
-    )))
+    ))
+    in tie.close met

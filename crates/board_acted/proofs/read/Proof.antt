@@ -5,9 +5,10 @@ use Rattle.board_acted.proofs.read.Tie as tie
 
 pub read-spec : {M : Type 1} → statement M
 read-spec =
-    tie.close
-    (tie.spec
+    let met =
+    tie.spec
     (λ c κs. search needs)
     (λ c κs. search needs)
     (λ c κs. search needs)
-    (λ c. simp (c .read-effect .ensures, c .before .byte-at .ensures, c .before .before .after-read .ensures)))
+    (λ c. simp (c .read-effect .ensures, c .before .byte-at .ensures, c .before .before .after-read .ensures))
+    in tie.close met

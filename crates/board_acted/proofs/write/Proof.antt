@@ -5,8 +5,9 @@ use Rattle.board_acted.proofs.write.Tie as tie
 
 pub write-spec : {M : Type 1} → statement M
 write-spec =
-    tie.close
-    (tie.spec
+    let met =
+    tie.spec
     (λ c κs. search needs)
     (λ c κs. search needs)
-    (λ c. simp (c .write-effect .ensures, c .before .write-at .ensures)))
+    (λ c. simp (c .write-effect .ensures, c .before .write-at .ensures))
+    in tie.close met

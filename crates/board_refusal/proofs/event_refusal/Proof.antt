@@ -7,8 +7,8 @@ use Rattle.board_refusal.specs.Refusals.{eventChecks}
 pub event-refusal-spec : {M : Type 1} → statement M
 unfolding eventChecks
 event-refusal-spec =
-    tie.close
-    (tie.spec
+    let met =
+    tie.spec
     (λ c. search needs)
     (λ c κs. search needs)
     (λ c κs. search needs)
@@ -35,4 +35,5 @@ event-refusal-spec =
     (λ c. simp (c .enum-told2 .given .1))
     (λ c. simp (c .enum-told3 .given .1))
     (λ c. simp (c .enum-told4 .given .1))
-    (λ c. simp (c .number-if4 .ensures, c .before .is-idle .ensures, c .before .before .enum-told5 .given .1)))
+    (λ c. simp (c .number-if4 .ensures, c .before .is-idle .ensures, c .before .before .enum-told5 .given .1))
+    in tie.close met

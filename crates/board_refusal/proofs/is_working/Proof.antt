@@ -7,8 +7,9 @@ use Rattle.board_refusal.specs.Working.{workingBoard}
 pub is-working-spec : {M : Type 1} → statement M
 unfolding workingBoard
 is-working-spec =
-    tie.close
-    (tie.spec
+    let met =
+    tie.spec
     (λ c κs. search needs)
     (λ c κs. search needs)
-    (λ c. simp (c .is-working2 .ensures, c .before .is-working .ensures)))
+    (λ c. simp (c .is-working2 .ensures, c .before .is-working .ensures))
+    in tie.close met

@@ -7,10 +7,11 @@ use Rattle.board_refusal.specs.Refusals.{checks}
 pub refusal-of-spec : {M : Type 1} → statement M
 unfolding checks
 refusal-of-spec =
-    tie.close
-    (tie.spec
+    let met =
+    tie.spec
     (λ c κs. search needs)
     (λ c κs. search needs)
     (λ c. simp (c .if1 .taken))
     (λ c. simp (rw (c .before .is-working .ensures) at (c .if2 .taken), c .before .before .if1 .left))
-    (λ c. simp (c .event-refusal .ensures, rw (c .before .before .is-working .ensures) at (c .before .if2 .left), c .before .before .before .if1 .left)))
+    (λ c. simp (c .event-refusal .ensures, rw (c .before .before .is-working .ensures) at (c .before .if2 .left), c .before .before .before .if1 .left))
+    in tie.close met

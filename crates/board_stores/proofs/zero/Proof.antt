@@ -43,8 +43,8 @@ returns c = c .before .loop .inv .1 ∙ filled _ (c .before .loop .i) (omega ari
 
 pub zero-spec : {M : Type 1} → statement M
 zero-spec =
-    tie.close
-    (tie.spec
+    let met =
+    tie.spec
     Inv-loop
     μ-loop
     loop-holds
@@ -53,4 +53,5 @@ zero-spec =
     loop-less
     loop-again
     same-length
-    returns)
+    returns
+    in tie.close met

@@ -8,11 +8,12 @@ use Rattle.bus_read.proofs.ad_bits.Tie as tie
 
 pub ad-bits-spec : {M : Type 1} → statement M
 ad-bits-spec =
-    tie.close
-    (tie.spec
+    let met =
+    tie.spec
     (λ c κs. search needs)
     (λ c κs. search needs)
     (λ c.
     let b = c .before .before .args .b in
     omega (arith, c .single-ended .ensures, single-fits b, c .before .status-bits .ensures, status-fits (b .converter)))
-    (λ c. simp (c .single-ended .ensures, c .before .status-bits .ensures)))
+    (λ c. simp (c .single-ended .ensures, c .before .status-bits .ensures))
+    in tie.close met

@@ -7,8 +7,8 @@ use Rattle.bus_read.specs.Read.{afterRead}
 pub after-read-spec : {M : Type 1} → statement M
 unfolding afterRead
 after-read-spec =
-    tie.close
-    (tie.spec
+    let met =
+    tie.spec
     (λ c. search needs)
     (λ c. search needs)
     (λ c. search needs)
@@ -56,4 +56,5 @@ after-read-spec =
     (λ c. simp (c .enum-told19 .given .1))
     (λ c. simp (c .enum-told20 .given .1))
     (λ c. simp (c .enum-told21 .given .1))
-    (λ c. simp (c .enum-told22 .given .1)))
+    (λ c. simp (c .enum-told22 .given .1))
+    in tie.close met

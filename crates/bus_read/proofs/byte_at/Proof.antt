@@ -7,8 +7,8 @@ use Rattle.bus_read.specs.Read.{byteAt}
 pub byte-at-spec : {M : Type 1} → statement M
 unfolding byteAt
 byte-at-spec =
-    tie.close
-    (tie.spec
+    let met =
+    tie.spec
     (λ c. search needs)
     (λ c. search needs)
     (λ c. search needs)
@@ -68,4 +68,5 @@ byte-at-spec =
     (λ c. simp (c .read-address .ensures, c .before .enum-told18 .given .1))
     (λ c. simp (c .read-status .ensures, c .before .enum-told19 .given .1))
     (λ c. simp (c .read-revision .ensures, c .before .enum-told20 .given .1))
-    (λ c. simp (c .enum-told21 .given .1)))
+    (λ c. simp (c .enum-told21 .given .1))
+    in tie.close met

@@ -8,8 +8,8 @@ use Rattle.bus_read.proofs.fifo_bits.Tie as tie
 
 pub fifo-bits-spec : {M : Type 1} → statement M
 fifo-bits-spec =
-    tie.close
-    (tie.spec
+    let met =
+    tie.spec
     (λ c κs. search needs)
     (λ c κs. search needs)
     (λ c.
@@ -18,4 +18,5 @@ fifo-bits-spec =
     (λ c.
     let b = c .before .before .before .args .b in
     omega (arith, c .before .mode-bits .ensures, mode-fits (b .converter) (b .requests), c .before .before .flag-bits .ensures, flags-fit (b .fifo)))
-    (λ c. simp (c .before .mode-bits .ensures, c .before .before .flag-bits .ensures)))
+    (λ c. simp (c .before .mode-bits .ensures, c .before .before .flag-bits .ensures))
+    in tie.close met

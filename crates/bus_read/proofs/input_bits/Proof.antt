@@ -5,12 +5,13 @@ use Rattle.bus_read.proofs.input_bits.Tie as tie
 
 pub input-bits-spec : {M : Type 1} → statement M
 input-bits-spec =
-    tie.close
-    (tie.spec
+    let met =
+    tie.spec
     (λ c κs. search needs)
     (λ c κs. search needs)
     (λ c κs. search needs)
     (λ c κs. search needs)
     (λ c. search needs)
     (λ c. search needs)
-    (λ c. simp (c .before .weight2 .ensures .0, c .before .before .is-busy2 .ensures, c .before .before .before .weight .ensures .0, c .before .before .before .before .is-busy .ensures)))
+    (λ c. simp (c .before .weight2 .ensures .0, c .before .before .is-busy2 .ensures, c .before .before .before .weight .ensures .0, c .before .before .before .before .is-busy .ensures))
+    in tie.close met

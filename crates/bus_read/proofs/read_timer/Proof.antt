@@ -5,8 +5,9 @@ use Rattle.bus_read.proofs.read_timer.Tie as tie
 
 pub read-timer-spec : {M : Type 1} → statement M
 read-timer-spec =
-    tie.close
-    (tie.spec
+    let met =
+    tie.spec
     (λ c κs. search needs)
     (λ c κs. search needs)
-    (λ c. simp (c .put-timer .ensures, c .before .before .read .ensures)))
+    (λ c. simp (c .put-timer .ensures, c .before .before .read .ensures))
+    in tie.close met

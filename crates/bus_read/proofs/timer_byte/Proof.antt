@@ -5,7 +5,8 @@ use Rattle.bus_read.proofs.timer_byte.Tie as tie
 
 pub timer-byte-spec : {M : Type 1} → statement M
 timer-byte-spec =
-    tie.close
-    (tie.spec
+    let met =
+    tie.spec
     (λ c κs. search needs)
-    (λ c. simp (c .read .ensures)))
+    (λ c. simp (c .read .ensures))
+    in tie.close met

@@ -5,7 +5,8 @@ use Rattle.bus_read.proofs.update.Tie as tie
 
 pub update-spec : {M : Type 1} → statement M
 update-spec =
-    tie.close
-    (tie.spec
+    let met =
+    tie.spec
     (λ c κs. search needs)
-    (λ c. simp (c .update .ensures)))
+    (λ c. simp (c .update .ensures))
+    in tie.close met

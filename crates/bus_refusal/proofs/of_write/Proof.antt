@@ -7,8 +7,8 @@ use Rattle.bus_refusal.specs.Refusals.{writeChecks}
 pub of-write-spec : {M : Type 1} → statement M
 unfolding writeChecks
 of-write-spec =
-    tie.close
-    (tie.spec
+    let met =
+    tie.spec
     (λ c. search needs)
     (λ c. search needs)
     (λ c. search needs)
@@ -69,4 +69,5 @@ of-write-spec =
     (λ c. simp (c .number-if7 .ensures, c .before .is-busy4 .ensures, c .before .before .enum-told19 .given .1))
     (λ c. simp (c .control-refusal .ensures, c .before .enum-told20 .given .1))
     (λ c. simp (c .enum-told21 .given .1))
-    (λ c. simp (c .enum-told22 .given .1)))
+    (λ c. simp (c .enum-told22 .given .1))
+    in tie.close met

@@ -7,8 +7,8 @@ use Rattle.bus_write.specs.Write.{writtenAt}
 pub write-at-spec : {M : Type 1} → statement M
 unfolding writtenAt
 write-at-spec =
-    tie.close
-    (tie.spec
+    let met =
+    tie.spec
     (λ c. search needs)
     (λ c κs. search needs)
     (λ c κs. search needs)
@@ -86,4 +86,5 @@ write-at-spec =
     (λ c. simp (c .put-calibration2 .ensures, c .before .write-address .ensures, c .before .before .enum-told18 .given .1))
     (λ c. simp (c .put-calibration3 .ensures, c .before .write-control3 .ensures, c .before .before .enum-told19 .given .1))
     (λ c. simp (c .put-calibration4 .ensures, c .before .write-key .ensures, c .before .before .enum-told20 .given .1))
-    (λ c. simp (c .enum-told21 .given .1)))
+    (λ c. simp (c .enum-told21 .given .1))
+    in tie.close met

@@ -5,9 +5,10 @@ use Rattle.bus_write.proofs.write_control.Tie as tie
 
 pub write-control-spec : {M : Type 1} → statement M
 write-control-spec =
-    tie.close
-    (tie.spec
+    let met =
+    tie.spec
     (λ c κs. search needs)
     (λ c κs. search needs)
     (λ c κs. search needs)
-    (λ c. simp (c .turn-by .ensures, c .before .write-control .ensures, c .before .before .gates-of .ensures)))
+    (λ c. simp (c .turn-by .ensures, c .before .write-control .ensures, c .before .before .gates-of .ensures))
+    in tie.close met

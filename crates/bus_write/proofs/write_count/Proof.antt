@@ -5,9 +5,10 @@ use Rattle.bus_write.proofs.write_count.Tie as tie
 
 pub write-count-spec : {M : Type 1} → statement M
 write-count-spec =
-    tie.close
-    (tie.spec
+    let met =
+    tie.spec
     (λ c κs. search needs)
     (λ c κs. search needs)
     (λ c κs. search needs)
-    (λ c. simp (c .turn-by .ensures, c .before .write-count .ensures, c .before .before .gates-of .ensures)))
+    (λ c. simp (c .turn-by .ensures, c .before .write-count .ensures, c .before .before .gates-of .ensures))
+    in tie.close met

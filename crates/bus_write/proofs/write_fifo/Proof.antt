@@ -5,8 +5,9 @@ use Rattle.bus_write.proofs.write_fifo.Tie as tie
 
 pub write-fifo-spec : {M : Type 1} → statement M
 write-fifo-spec =
-    tie.close
-    (tie.spec
+    let met =
+    tie.spec
     (λ c κs. search needs)
     (λ c κs. search needs)
-    (λ c. simp (c .write-scanen .ensures, c .before .write-fifoen .ensures)))
+    (λ c. simp (c .write-scanen .ensures, c .before .write-fifoen .ensures))
+    in tie.close met

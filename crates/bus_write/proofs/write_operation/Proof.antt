@@ -5,8 +5,9 @@ use Rattle.bus_write.proofs.write_operation.Tie as tie
 
 pub write-operation-spec : {M : Type 1} → statement M
 write-operation-spec =
-    tie.close
-    (tie.spec
+    let met =
+    tie.spec
     (λ c κs. search needs)
     (λ c κs. search needs)
-    (λ c. simp (c .write-clken .ensures, c .before .write-enables .ensures)))
+    (λ c. simp (c .write-clken .ensures, c .before .write-enables .ensures))
+    in tie.close met

@@ -5,7 +5,8 @@ use Rattle.calibration.proofs.eeprom_command.Tie as tie
 
 pub eeprom-command-spec : {M : Type 1} → statement M
 eeprom-command-spec =
-    tie.close
-    (tie.spec
+    let met =
+    tie.spec
     (λ c. simp (eq-eqb _ _ (c .if1 .taken)))
-    (λ c. simp (ne-eqb _ _ (c .if1 .left))))
+    (λ c. simp (ne-eqb _ _ (c .if1 .left)))
+    in tie.close met

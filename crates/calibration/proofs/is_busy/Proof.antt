@@ -5,8 +5,9 @@ use Rattle.calibration.proofs.is_busy.Tie as tie
 
 pub is-busy-spec : {M : Type 1} → statement M
 is-busy-spec =
-    tie.close
-    (tie.spec
+    let met =
+    tie.spec
     (λ c κs. search needs)
     (λ c κs. search needs)
-    (λ c. simp (c .does-run .ensures, c .before .transfer-of .ensures)))
+    (λ c. simp (c .does-run .ensures, c .before .transfer-of .ensures))
+    in tie.close met

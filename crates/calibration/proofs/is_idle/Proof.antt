@@ -5,7 +5,8 @@ use Rattle.calibration.proofs.is_idle.Tie as tie
 
 pub is-idle-spec : {M : Type 1} → statement M
 is-idle-spec =
-    tie.close
-    (tie.spec
+    let met =
+    tie.spec
     (λ c κs. search needs)
-    (λ c. simp (c .is-busy .ensures)))
+    (λ c. simp (c .is-busy .ensures))
+    in tie.close met

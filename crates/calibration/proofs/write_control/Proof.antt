@@ -5,7 +5,8 @@ use Rattle.calibration.proofs.write_control.Tie as tie
 
 pub write-control-spec : {M : Type 1} → statement M
 write-control-spec =
-    tie.close
-    (tie.spec
+    let met =
+    tie.spec
     (λ c κs. search needs)
-    (λ c. simp (c .command-of .ensures)))
+    (λ c. simp (c .command-of .ensures))
+    in tie.close met

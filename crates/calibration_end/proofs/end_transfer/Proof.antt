@@ -7,8 +7,8 @@ use Rattle.calibration_end.proofs.end_transfer.Tie as tie
 pub end-transfer-spec : {M : Type 1} → statement M
 unfolding ended eepromEnded
 end-transfer-spec =
-    tie.close
-    (tie.spec
+    let met =
+    tie.spec
     (λ c κs. search needs)
     (λ c κs. search needs)
     (λ c κs. search needs)
@@ -16,4 +16,5 @@ end-transfer-spec =
     (λ c. (
       simp (c .before .before .before .before .end-by .ensures, c .before .before .before .before .before .before .transfer-of .ensures),
       simp (c .before .before .store-by .ensures, c .before .before .before .before .before .before .transfer-of .ensures),
-    )))
+    ))
+    in tie.close met

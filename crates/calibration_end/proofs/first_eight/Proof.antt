@@ -7,8 +7,8 @@ use Rattle.calibration_end.proofs.first_eight.Tie as tie
 
 pub first-eight-spec : {M : Type 1} → statement M
 first-eight-spec =
-    tie.close
-    (tie.spec
+    let met =
+    tie.spec
     (λ c. search needs)
     (λ c. search needs)
     (λ c. search needs)
@@ -17,4 +17,5 @@ first-eight-spec =
     (λ c. search needs)
     (λ c. search needs)
     (λ c. search needs)
-    (λ c. first-eight (now (c .before .before .before .before .before .before .before .before .args .eeprom)) (c .before .before .before .before .before .before .before .before .pre)))
+    (λ c. first-eight (now (c .before .before .before .before .before .before .before .before .args .eeprom)) (c .before .before .before .before .before .before .before .before .pre))
+    in tie.close met

@@ -5,8 +5,8 @@ use Rattle.calibration_end.proofs.store_by.Tie as tie
 
 pub store-by-spec : {M : Type 1} → statement M
 store-by-spec =
-    tie.close
-    (tie.spec
+    let met =
+    tie.spec
     (λ c. search needs)
     (λ c. search needs)
     (λ c. search needs)
@@ -19,4 +19,5 @@ store-by-spec =
     (λ c. search needs)
     (λ c. simp (c .enum-told3 .given .1))
     (λ c. simp (c .enum-told4 .given .1))
-    (λ c. simp (c .enum-told5 .given .1)))
+    (λ c. simp (c .enum-told5 .given .1))
+    in tie.close met

@@ -102,8 +102,8 @@ returns-3 c = let s = c .before .before in answer s 65554 (rw (known (c .before)
 
 pub code-in-spec : {M : Type 1} → statement M
 code-in-spec =
-    tie.close
-    (tie.spec
+    let met =
+    tie.spec
     cast-height
     cast-height-2
     add-height
@@ -115,4 +115,5 @@ code-in-spec =
     div-code
     cast-result
     returns-2
-    returns-3)
+    returns-3
+    in tie.close met

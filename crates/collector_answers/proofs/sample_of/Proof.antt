@@ -7,7 +7,8 @@ use Rattle.collector_answers.proofs.sample_of.Tie as tie
 
 pub sample-of-spec : {M : Type 1} → statement M
 sample-of-spec =
-    tie.close
-    (tie.spec
+    let met =
+    tie.spec
     (λ c κs. search needs)
-    (λ c. rw (toZ-ofZ {w = w16} {z = c .code .result} (record { sfits = c .code .ok }), c .code .ensures)))
+    (λ c. rw (toZ-ofZ {w = w16} {z = c .code .result} (record { sfits = c .code .ok }), c .code .ensures))
+    in tie.close met

@@ -46,8 +46,8 @@ returns-2 c = search needs
 
 pub run-all-spec : {M : Type 1} → statement M
 run-all-spec =
-    tie.close
-    (tie.spec
+    let met =
+    tie.spec
     Inv-loop
     μ-loop
     begin-requires
@@ -60,4 +60,5 @@ run-all-spec =
     same-length
     returns
     same-length-2
-    returns-2)
+    returns-2
+    in tie.close met

@@ -5,8 +5,8 @@ use Rattle.collector_phases.proofs.access_in.Tie as tie
 
 pub access-in-spec : {M : Type 1} → statement M
 access-in-spec =
-    tie.close
-    (tie.spec
+    let met =
+    tie.spec
     (λ c. search needs)
     (λ c. search needs)
     (λ c. search needs)
@@ -31,4 +31,5 @@ access-in-spec =
     (λ c. simp (c .enum-told9 .given .1))
     (λ c. simp (c .enum-told10 .given .1))
     (λ c. simp (c .enum-told11 .given .1))
-    (λ c. simp (c .enum-told12 .given .1)))
+    (λ c. simp (c .enum-told12 .given .1))
+    in tie.close met

@@ -7,10 +7,11 @@ use Rattle.collector_phases.specs.Accesses.{accessOf}
 pub access-of-spec : {M : Type 1} → statement M
 unfolding accessOf
 access-of-spec =
-    tie.close
-    (tie.spec
+    let met =
+    tie.spec
     (λ c κs. search needs)
     (λ c κs. search needs)
     (λ c κs. search needs)
     (λ c. simp (c .access-in .ensures, c .before .phase-of .ensures, rw (c .before .before .before .is-fit .ensures) at (c .before .before .if1 .taken)))
-    (λ c. simp (rw (c .before .is-fit .ensures) at (c .if1 .left))))
+    (λ c. simp (rw (c .before .is-fit .ensures) at (c .if1 .left)))
+    in tie.close met

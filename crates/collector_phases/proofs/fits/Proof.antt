@@ -5,8 +5,8 @@ use Rattle.collector_phases.proofs.fits.Tie as tie
 
 pub fits-spec : {M : Type 1} → statement M
 fits-spec =
-    tie.close
-    (tie.spec
+    let met =
+    tie.spec
     (λ c. search needs)
     (λ c. search needs)
     (λ c. search needs)
@@ -30,4 +30,5 @@ fits-spec =
     (λ c. simp (c .enum-told9 .given .1))
     (λ c. simp (c .before .before .enum-told10 .given .1))
     (λ c. simp (c .enum-told11 .given .1))
-    (λ c. simp (c .enum-told12 .given .1)))
+    (λ c. simp (c .enum-told12 .given .1))
+    in tie.close met

@@ -7,9 +7,10 @@ use Rattle.collector_phases.specs.Fit.{fit}
 pub is-fit-spec : {M : Type 1} → statement M
 unfolding fit
 is-fit-spec =
-    tie.close
-    (tie.spec
+    let met =
+    tie.spec
     (λ c κs. search needs)
     (λ c κs. search needs)
     (λ c κs. search needs)
-    (λ c. simp (c .fits2 .ensures, c .before .phase-of .ensures, c .before .before .before .before .before .before .before .before .start-refusal .ensures)))
+    (λ c. simp (c .fits2 .ensures, c .before .phase-of .ensures, c .before .before .before .before .before .before .before .before .start-refusal .ensures))
+    in tie.close met

@@ -5,7 +5,8 @@ use Rattle.collector_records.proofs.pass.Tie as tie
 
 pub pass-spec : {M : Type 1} → statement M
 pass-spec =
-    tie.close
-    (tie.spec
+    let met =
+    tie.spec
     (λ c κs. search needs)
-    (λ c. simp (c .follow .ensures)))
+    (λ c. simp (c .follow .ensures))
+    in tie.close met

@@ -8,9 +8,10 @@ use Rattle.collector_records.specs.Records.{started}
 pub start-spec : {M : Type 1} → statement M
 unfolding started
 start-spec =
-    tie.close
-    (tie.spec
+    let met =
+    tie.spec
     (λ c κs. search needs)
     (λ c κs. search needs)
     (λ c. simp (c .begin .ensures, rw (c .before .before .start-refusal .ensures) at (eq-eqb _ _ (c .before .if1 .taken))))
-    (λ c. simp (rw (c .before .start-refusal .ensures) at (ne-eqb _ _ (c .if1 .left)), c .before .start-refusal .ensures)))
+    (λ c. simp (rw (c .before .start-refusal .ensures) at (ne-eqb _ _ (c .if1 .left)), c .before .start-refusal .ensures))
+    in tie.close met

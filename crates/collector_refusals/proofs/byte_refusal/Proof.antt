@@ -5,8 +5,8 @@ use Rattle.collector_refusals.proofs.byte_refusal.Tie as tie
 
 pub byte-refusal-spec : {M : Type 1} → statement M
 byte-refusal-spec =
-    tie.close
-    (tie.spec
+    let met =
+    tie.spec
     (λ c κs. search needs)
     (λ c κs. search needs)
     (λ c κs. search needs)
@@ -14,4 +14,5 @@ byte-refusal-spec =
     (λ c. simp (rw (c .before .is-wide .ensures) at (c .if1 .taken)))
     (λ c. simp (rw (c .before .is-last-poll .ensures, c .before .before .is-converting .ensures) at (c .if2 .taken), rw (c .before .before .before .before .is-wide .ensures) at (c .before .before .before .if1 .left)))
     (λ c. simp (rw (c .before .is-contradictory .ensures) at (c .if3 .taken), rw (c .before .before .before .is-last-poll .ensures, c .before .before .before .before .is-converting .ensures) at (c .before .before .if2 .left), rw (c .before .before .before .before .before .before .is-wide .ensures) at (c .before .before .before .before .before .if1 .left)))
-    (λ c. simp (rw (c .before .is-contradictory .ensures) at (c .if3 .left), rw (c .before .before .before .is-last-poll .ensures, c .before .before .before .before .is-converting .ensures) at (c .before .before .if2 .left), rw (c .before .before .before .before .before .before .is-wide .ensures) at (c .before .before .before .before .before .if1 .left))))
+    (λ c. simp (rw (c .before .is-contradictory .ensures) at (c .if3 .left), rw (c .before .before .before .is-last-poll .ensures, c .before .before .before .before .is-converting .ensures) at (c .before .before .if2 .left), rw (c .before .before .before .before .before .before .is-wide .ensures) at (c .before .before .before .before .before .if1 .left)))
+    in tie.close met

@@ -5,8 +5,8 @@ use Rattle.collector_refusals.proofs.is_poll.Tie as tie
 
 pub is-poll-spec : {M : Type 1} → statement M
 is-poll-spec =
-    tie.close
-    (tie.spec
+    let met =
+    tie.spec
     (λ c. search needs)
     (λ c. search needs)
     (λ c. search needs)
@@ -14,4 +14,5 @@ is-poll-spec =
     (λ c. simp (c .enum-told .given .1))
     (λ c. simp (c .before .x .given .1))
     (λ c. simp (c .enum-told2 .given .1))
-    (λ c. simp (c .enum-told3 .given .1)))
+    (λ c. simp (c .enum-told3 .given .1))
+    in tie.close met

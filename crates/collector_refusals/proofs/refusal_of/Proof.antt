@@ -5,8 +5,8 @@ use Rattle.collector_refusals.proofs.refusal_of.Tie as tie
 
 pub refusal-of-spec : {M : Type 1} → statement M
 refusal-of-spec =
-    tie.close
-    (tie.spec
+    let met =
+    tie.spec
     (λ c. search needs)
     (λ c. search needs)
     (λ c κs. search needs)
@@ -15,4 +15,5 @@ refusal-of-spec =
     (λ c. simp (c .enum-told .given .1))
     (λ c. simp (c .byte-refusal .ensures, c .before .before .x .given .1))
     (λ c. simp (c .enum-told2 .given .1))
-    (λ c. simp (c .enum-told3 .given .1)))
+    (λ c. simp (c .enum-told3 .given .1))
+    in tie.close met

@@ -5,8 +5,8 @@ use Rattle.collector_replies.proofs.advance.Tie as tie
 
 pub advance-spec : {M : Type 1} → statement M
 advance-spec =
-    tie.close
-    (tie.spec
+    let met =
+    tie.spec
     (λ c. search needs)
     (λ c κs. search needs)
     (λ c κs. search needs)
@@ -50,4 +50,5 @@ advance-spec =
     (λ c. simp (c .answer-take .ensures, c .before .enum-told9 .given .1))
     (λ c. simp (c .answer-drain .ensures, c .before .enum-told10 .given .1))
     (λ c. simp (c .report9 .ensures, c .before .enum-told11 .given .1))
-    (λ c. simp (c .report10 .ensures, c .before .enum-told12 .given .1)))
+    (λ c. simp (c .report10 .ensures, c .before .enum-told12 .given .1))
+    in tie.close met

@@ -7,11 +7,12 @@ use Rattle.collector_replies.specs.Reply.{replied}
 pub take-answer-spec : {M : Type 1} → statement M
 unfolding replied
 take-answer-spec =
-    tie.close
-    (tie.spec
+    let met =
+    tie.spec
     (λ c κs. search needs)
     (λ c κs. search needs)
     (λ c κs. simp (rw (c .before .before .is-fit .ensures) at (c .before .if1 .taken)))
     (λ c κs. search needs)
     (λ c. simp (c .reply .ensures, c .before .phase-of .ensures, rw (c .before .before .before .is-fit .ensures) at (c .before .before .if1 .taken)))
-    (λ c. simp (c .report .ensures, rw (c .before .before .is-fit .ensures) at (c .before .if1 .left))))
+    (λ c. simp (c .report .ensures, rw (c .before .before .is-fit .ensures) at (c .before .if1 .left)))
+    in tie.close met

@@ -5,7 +5,8 @@ use Rattle.collector_settings.proofs.clock_byte.Tie as tie
 
 pub clock-byte-spec : {M : Type 1} → statement M
 clock-byte-spec =
-    tie.close
-    (tie.spec
+    let met =
+    tie.spec
     (λ c. simp (eq-eqb _ _ (c .if1 .taken)))
-    (λ c. simp (ne-eqb _ _ (c .if1 .left))))
+    (λ c. simp (ne-eqb _ _ (c .if1 .left)))
+    in tie.close met

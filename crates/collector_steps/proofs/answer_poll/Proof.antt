@@ -5,10 +5,11 @@ use Rattle.collector_steps.proofs.answer_poll.Tie as tie
 
 pub answer-poll-spec : {M : Type 1} → statement M
 answer-poll-spec =
-    tie.close
-    (tie.spec
+    let met =
+    tie.spec
     (λ c κs. search needs)
     (λ c κs. search needs)
     (λ c κs. search needs)
     (λ c. simp (c .count .ensures, rw (c .before .before .is-converting .ensures) at (c .before .if1 .taken)))
-    (λ c. simp (c .count2 .ensures, rw (c .before .before .is-converting .ensures) at (c .before .if1 .left))))
+    (λ c. simp (c .count2 .ensures, rw (c .before .before .is-converting .ensures) at (c .before .if1 .left)))
+    in tie.close met

@@ -5,7 +5,8 @@ use Rattle.counting.proofs.new.Tie as tie
 
 pub new-spec : {M : Type 1} → statement M
 new-spec =
-    tie.close
-    (tie.spec
+    let met =
+    tie.spec
     (λ c κs. search needs)
-    (λ c. simp (c .none .ensures)))
+    (λ c. simp (c .none .ensures))
+    in tie.close met

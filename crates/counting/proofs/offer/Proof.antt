@@ -5,9 +5,10 @@ use Rattle.counting.proofs.offer.Tie as tie
 
 pub offer-spec : {M : Type 1} → statement M
 offer-spec =
-    tie.close
-    (tie.spec
+    let met =
+    tie.spec
     (λ c κs. search needs)
     (λ c κs. search needs)
     (λ c. simp (rw (c .before .refuses-piece .ensures) at (c .if1 .taken)))
-    (λ c. simp (c .write-piece .ensures, rw (c .before .before .refuses-piece .ensures) at (c .before .if1 .left))))
+    (λ c. simp (c .write-piece .ensures, rw (c .before .before .refuses-piece .ensures) at (c .before .if1 .left)))
+    in tie.close met

@@ -5,8 +5,9 @@ use Rattle.counting.proofs.program.Tie as tie
 
 pub program-spec : {M : Type 1} → statement M
 program-spec =
-    tie.close
-    (tie.spec
+    let met =
+    tie.spec
     (λ c κs. search needs)
     (λ c κs. search needs)
-    (λ c. simp (c .none .ensures, c .before .first-count .ensures)))
+    (λ c. simp (c .none .ensures, c .before .first-count .ensures))
+    in tie.close met

@@ -5,10 +5,11 @@ use Rattle.counting.proofs.refuses_piece.Tie as tie
 
 pub refuses-piece-spec : {M : Type 1} → statement M
 refuses-piece-spec =
-    tie.close
-    (tie.spec
+    let met =
+    tie.spec
     (λ c. search needs)
     (λ c. search needs)
     (λ c κs. search needs)
     (λ c. simp (c .enum-told .given .1))
-    (λ c. simp (c .from-two .ensures, c .before .before .q .given .1)))
+    (λ c. simp (c .from-two .ensures, c .before .before .q .given .1))
+    in tie.close met

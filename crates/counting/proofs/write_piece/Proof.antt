@@ -5,8 +5,9 @@ use Rattle.counting.proofs.write_piece.Tie as tie
 
 pub write-piece-spec : {M : Type 1} → statement M
 write-piece-spec =
-    tie.close
-    (tie.spec
+    let met =
+    tie.spec
     (λ c κs. search needs)
     (λ c κs. search needs)
-    (λ c. simp (c .after-write .ensures, c .before .take-piece .ensures)))
+    (λ c. simp (c .after-write .ensures, c .before .take-piece .ensures))
+    in tie.close met

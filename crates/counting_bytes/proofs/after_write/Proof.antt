@@ -5,9 +5,10 @@ use Rattle.counting_bytes.proofs.after_write.Tie as tie
 
 pub after-write-spec : {M : Type 1} → statement M
 after-write-spec =
-    tie.close
-    (tie.spec
+    let met =
+    tie.spec
     (λ c. search needs)
     (λ c. search needs)
     (λ c. simp (c .before .q .given .1))
-    (λ c. simp (c .enum-told .given .1)))
+    (λ c. simp (c .enum-told .given .1))
+    in tie.close met

@@ -5,8 +5,8 @@ use Rattle.counting_bytes.proofs.byte_shown.Tie as tie
 
 pub byte-shown-spec : {M : Type 1} → statement M
 byte-shown-spec =
-    tie.close
-    (tie.spec
+    let met =
+    tie.spec
     (λ c. search needs)
     (λ c. search needs)
     (λ c. search needs)
@@ -15,4 +15,5 @@ byte-shown-spec =
     (λ c. simp (c .enum-told .given .1))
     (λ c. simp (c .enum-told2 .given .1))
     (λ c. simp (c .if1 .taken, c .before .enum-told3 .given .1))
-    (λ c. simp (c .if1 .left, c .before .enum-told3 .given .1)))
+    (λ c. simp (c .if1 .left, c .before .enum-told3 .given .1))
+    in tie.close met

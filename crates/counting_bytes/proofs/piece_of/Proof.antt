@@ -5,8 +5,8 @@ use Rattle.counting_bytes.proofs.piece_of.Tie as tie
 
 pub piece-of-spec : {M : Type 1} → statement M
 piece-of-spec =
-    tie.close
-    (tie.spec
+    let met =
+    tie.spec
     (λ c. search needs)
     (λ c. search needs)
     (λ c. search needs)
@@ -17,4 +17,5 @@ piece-of-spec =
     (λ c. simp (c .enum-told .given .1))
     (λ c. simp (c .enum-told2 .given .1))
     (λ c. simp (c .before .if1 .taken, c .before .before .enum-told3 .given .1))
-    (λ c. simp (c .if1 .left, c .before .enum-told3 .given .1)))
+    (λ c. simp (c .if1 .left, c .before .enum-told3 .given .1))
+    in tie.close met

@@ -4,7 +4,8 @@ use Rattle.counting_bytes.proofs.take_latch.Tie as tie
 
 pub take-latch-spec : {M : Type 1} → statement M
 take-latch-spec =
-    tie.close
-    (tie.spec
+    let met =
+    tie.spec
     (λ c. simp (c .if1 .taken))
-    (λ c. simp (c .if1 .left)))
+    (λ c. simp (c .if1 .left))
+    in tie.close met

@@ -7,11 +7,12 @@ use Rattle.counting_element.specs.Element.{countedBy}
 pub count-by-spec : {M : Type 1} → statement M
 unfolding countedBy
 count-by-spec =
-    tie.close
-    (tie.spec
+    let met =
+    tie.spec
     (λ c. search needs)
     (λ c κs. search needs)
     (λ c. search needs)
     (λ c κs. search needs)
     (λ c. simp (c .count-terminal .ensures, c .before .enum-told .given .1))
-    (λ c. simp (c .count-rate .ensures, c .before .enum-told2 .given .1)))
+    (λ c. simp (c .count-rate .ensures, c .before .enum-told2 .given .1))
+    in tie.close met

@@ -5,7 +5,8 @@ use Rattle.counting_element.proofs.count_terminal.Tie as tie
 
 pub count-terminal-spec : {M : Type 1} → statement M
 count-terminal-spec =
-    tie.close
-    (tie.spec
+    let met =
+    tie.spec
     (λ c κs. search needs)
-    (λ c. simp (c .before .one-less .ensures)))
+    (λ c. simp (c .before .one-less .ensures))
+    in tie.close met

@@ -5,7 +5,8 @@ use Rattle.counting_element.proofs.counts_on_pulse.Tie as tie
 
 pub counts-on-pulse-spec : {M : Type 1} → statement M
 counts-on-pulse-spec =
-    tie.close
-    (tie.spec
+    let met =
+    tie.spec
     (λ c κs. search needs)
-    (λ c. simp (c .before .byte-stops .ensures)))
+    (λ c. simp (c .before .byte-stops .ensures))
+    in tie.close met

@@ -5,7 +5,8 @@ use Rattle.counting_element.proofs.first_count.Tie as tie
 
 pub first-count-spec : {M : Type 1} → statement M
 first-count-spec =
-    tie.close
-    (tie.spec
+    let met =
+    tie.spec
     (λ c κs. search needs)
-    (λ c. simp (c .first-out .ensures)))
+    (λ c. simp (c .first-out .ensures))
+    in tie.close met

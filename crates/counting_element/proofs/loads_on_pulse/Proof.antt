@@ -5,7 +5,8 @@ use Rattle.counting_element.proofs.loads_on_pulse.Tie as tie
 
 pub loads-on-pulse-spec : {M : Type 1} → statement M
 loads-on-pulse-spec =
-    tie.close
-    (tie.spec
+    let met =
+    tie.spec
     (λ c κs. search needs)
-    (λ c. simp (c .before .before .trigger-loads .ensures)))
+    (λ c. simp (c .before .before .trigger-loads .ensures))
+    in tie.close met

@@ -5,7 +5,8 @@ use Rattle.counting_element.proofs.see_gate.Tie as tie
 
 pub see-gate-spec : {M : Type 1} → statement M
 see-gate-spec =
-    tie.close
-    (tie.spec
+    let met =
+    tie.spec
     (λ c κs. search needs)
-    (λ c. simp (c .before .gate-raises .ensures)))
+    (λ c. simp (c .before .gate-raises .ensures))
+    in tie.close met

@@ -5,11 +5,12 @@ use Rattle.counting_element.proofs.take_piece.Tie as tie
 
 pub take-piece-spec : {M : Type 1} → statement M
 take-piece-spec =
-    tie.close
-    (tie.spec
+    let met =
+    tie.spec
     (λ c κs. search needs)
     (λ c κs. search needs)
     (λ c. search needs)
     (λ c. search needs)
     (λ c. simp (c .enum-told .given .1, c .before .before .before .before .before .byte-stops .ensures))
-    (λ c. simp (c .before .q .given .1, c .before .before .before .before .loads-at-once .ensures, c .before .before .before .before .before .before .byte-stops .ensures)))
+    (λ c. simp (c .before .q .given .1, c .before .before .before .before .loads-at-once .ensures, c .before .before .before .before .before .before .byte-stops .ensures))
+    in tie.close met

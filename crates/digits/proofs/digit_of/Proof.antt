@@ -6,7 +6,8 @@ use Rattle.digits.specs.Digits.{digitOf}
 pub digit-of-spec : {M : Type 1} → statement M
 unfolding digitOf
 digit-of-spec =
-    tie.close
-    (tie.spec
+    let met =
+    tie.spec
     (λ c. simp (c .if1 .taken))
-    (λ c. simp (c .if1 .left)))
+    (λ c. simp (c .if1 .left))
+    in tie.close met

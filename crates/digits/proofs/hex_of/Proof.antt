@@ -7,9 +7,10 @@ use Rattle.digits.specs.Digits.{hexOf}
 pub hex-of-spec : {M : Type 1} → statement M
 unfolding hexOf
 hex-of-spec =
-    tie.close
-    (tie.spec
+    let met =
+    tie.spec
     (λ c. search needs)
     (λ c. simp (c .if1 .taken))
     (λ c. simp (c .if2 .taken, c .before .if1 .left))
-    (λ c. simp (c .if2 .left, c .before .if1 .left)))
+    (λ c. simp (c .if2 .left, c .before .if1 .left))
+    in tie.close met

@@ -44,8 +44,8 @@ returns c =
 
 pub are-zero-spec : {M : Type 1} → statement M
 are-zero-spec =
-    tie.close
-    (tie.spec
+    let met =
+    tie.spec
     Inv-loop
     μ-loop
     loop-holds
@@ -54,4 +54,5 @@ are-zero-spec =
     add-i
     loop-less
     loop-again
-    returns)
+    returns
+    in tie.close met

@@ -53,8 +53,8 @@ returns c =
 
 pub clear-spec : {M : Type 1} → statement M
 clear-spec =
-    tie.close
-    (tie.spec
+    let met =
+    tie.spec
     Inv-loop
     μ-loop
     loop-holds
@@ -65,4 +65,5 @@ clear-spec =
     loop-again
     empty-requires
     same-length
-    returns)
+    returns
+    in tie.close met

@@ -7,8 +7,8 @@ use Rattle.fifo.specs.Flags.{flagBits}
 pub flag-bits-spec : {M : Type 1} → statement M
 unfolding flagBits
 flag-bits-spec =
-    tie.close
-    (tie.spec
+    let met =
+    tie.spec
     (λ c κs. search needs)
     (λ c κs. search needs)
     (λ c κs. search needs)
@@ -19,4 +19,5 @@ flag-bits-spec =
     (λ c. search needs)
     (λ c κs. search needs)
     (λ c. search needs)
-    (λ c. simp (c .weight4 .ensures .0, c .before .weight3 .ensures .0, c .before .before .is-full .ensures, c .before .before .before .weight2 .ensures .0, c .before .before .before .before .is-half-full .ensures, c .before .before .before .before .before .weight .ensures .0, c .before .before .before .before .before .before .is-empty .ensures)))
+    (λ c. simp (c .weight4 .ensures .0, c .before .weight3 .ensures .0, c .before .before .is-full .ensures, c .before .before .before .weight2 .ensures .0, c .before .before .before .before .is-half-full .ensures, c .before .before .before .before .before .weight .ensures .0, c .before .before .before .before .before .before .is-empty .ensures))
+    in tie.close met

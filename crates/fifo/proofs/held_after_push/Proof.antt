@@ -8,8 +8,9 @@ use Rattle.fifo.specs.Queue.{pushedTo}
 pub held-after-push-spec : {M : Type 1} → statement M
 unfolding pushedTo
 held-after-push-spec =
-    tie.close
-    (tie.spec
+    let met =
+    tie.spec
     (λ c. search needs)
     (λ c. simp (lt-ltb _ _ (c .before .if1 .taken)))
-    (λ c. simp (le-ltb _ _ (c .if1 .left))))
+    (λ c. simp (le-ltb _ _ (c .if1 .left)))
+    in tie.close met

@@ -6,8 +6,9 @@ use Rattle.fifo.proofs.is_working.Tie as tie
 
 pub is-working-spec : {M : Type 1} → statement M
 is-working-spec =
-    tie.close
-    (tie.spec
+    let met =
+    tie.spec
     (λ c. search needs)
     (λ c κs. search needs)
-    (λ c. rw (c .are-zero .ensures) (tested _ _)))
+    (λ c. rw (c .are-zero .ensures) (tested _ _))
+    in tie.close met

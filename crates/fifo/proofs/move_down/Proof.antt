@@ -63,8 +63,8 @@ returns c = shift-last (c .before .loop .i) _ _ _ (c .before .loop .inv .2) (c .
 
 pub move-down-spec : {M : Type 1} → statement M
 move-down-spec =
-    tie.close
-    (tie.spec
+    let met =
+    tie.spec
     Inv-loop
     μ-loop
     loop-holds
@@ -80,4 +80,5 @@ move-down-spec =
     mul-memory-2
     slice-write-memory-2
     same-length
-    returns)
+    returns
+    in tie.close met

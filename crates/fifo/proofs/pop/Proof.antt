@@ -7,8 +7,8 @@ use Rattle.fifo.proofs.pop.Tie as tie
 
 pub pop-spec : {M : Type 1} → statement M
 pop-spec =
-    tie.close
-    (tie.spec
+    let met =
+    tie.spec
     (λ c. pop-none _ _ (c .before .before .pre) (c .if1 .taken))
     (λ c. search needs)
     (λ c κs. search needs)
@@ -16,4 +16,5 @@ pop-spec =
     (λ c. search needs)
     (λ c.
     let s = pop-some _ _ (c .before .before .before .before .before .before .pre) (c .before .before .before .before .if1 .left) in
-    record { fifo = s .fifo; laid = c .before .before .move-down .ensures ∙ s .laid }))
+    record { fifo = s .fifo; laid = c .before .before .move-down .ensures ∙ s .laid })
+    in tie.close met

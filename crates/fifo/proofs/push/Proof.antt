@@ -27,5 +27,6 @@ returns-2 c = push-lost _ _ _ (c .before .pre) (c .if1 .left)
 
 pub push-spec : {M : Type 1} → statement M
 push-spec =
-    tie.close
-    (tie.spec cast-memory mul-memory slice-write-memory add-t10 same-length returns returns-2)
+    let met =
+    tie.spec cast-memory mul-memory slice-write-memory add-t10 same-length returns returns-2
+    in tie.close met

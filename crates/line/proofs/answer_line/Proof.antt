@@ -9,8 +9,8 @@ use Rattle.line.proofs.answer_line.Tie as tie
 
 pub answer-line-spec : {M : Type 1} → statement M
 answer-line-spec =
-    tie.close
-    (tie.spec
+    let met =
+    tie.spec
     (λ c κs. search needs)
     (λ c κs. search needs)
     (λ c κs. search needs)
@@ -23,4 +23,5 @@ answer-line-spec =
     (λ c. search needs)
     (λ c. search needs)
     (λ c. search needs)
-    (λ c. line-event (talkOf (c .before .before .before .before .before .before .before .before .before .before .before .before .before .before .before .before .before .before .before .before .args .session) (c .before .before .before .before .before .before .before .before .before .before .before .before .before .before .before .before .before .before .before .before .args .memory .now) (c .before .before .before .before .before .before .before .before .before .before .before .before .before .before .before .before .before .before .before .before .args .eeprom .now)) (c .before .before .before .before .before .before .before .before .before .before .before .before .before .before .before .before .wrapping-add-u64 .ensures) (sym (c .before .before .before .before .before .before .before .before .before .before .before .before .before .ask .ensures ∙ ap askedBy (c .before .before .before .before .before .before .before .before .before .before .before .before .before .before .command-at .ensures)) ∙ c .before .before .before .before .before .before .before .before .before .before .before .asked .given .1) (c .before .before .before .before .before .before .happen .ensures)))
+    (λ c. line-event (talkOf (c .before .before .before .before .before .before .before .before .before .before .before .before .before .before .before .before .before .before .before .before .args .session) (c .before .before .before .before .before .before .before .before .before .before .before .before .before .before .before .before .before .before .before .before .args .memory .now) (c .before .before .before .before .before .before .before .before .before .before .before .before .before .before .before .before .before .before .before .before .args .eeprom .now)) (c .before .before .before .before .before .before .before .before .before .before .before .before .before .before .before .before .wrapping-add-u64 .ensures) (sym (c .before .before .before .before .before .before .before .before .before .before .before .before .before .ask .ensures ∙ ap askedBy (c .before .before .before .before .before .before .before .before .before .before .before .before .before .before .command-at .ensures)) ∙ c .before .before .before .before .before .before .before .before .before .before .before .asked .given .1) (c .before .before .before .before .before .before .happen .ensures))
+    in tie.close met

@@ -64,8 +64,8 @@ returns-2 c = fed-all (c .before .loop .inv .0) (c .loop-test .left)
 
 pub feed-spec : {M : Type 1} → statement M
 feed-spec =
-    tie.close
-    (tie.spec
+    let met =
+    tie.spec
     Inv-loop
     μ-loop
     loop-holds
@@ -80,4 +80,5 @@ feed-spec =
     same-length-4
     same-length-5
     same-length-6
-    returns-2)
+    returns-2
+    in tie.close met

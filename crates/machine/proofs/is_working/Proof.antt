@@ -7,11 +7,12 @@ use Rattle.machine.specs.Working.{workingMachine}
 pub is-working-spec : {M : Type 1} → statement M
 unfolding workingMachine
 is-working-spec =
-    tie.close
-    (tie.spec
+    let met =
+    tie.spec
     (λ c κs. search needs)
     (λ c κs. search needs)
     (λ c κs. search needs)
     (λ c κs. search needs)
     (λ c κs. search needs)
-    (λ c. simp (c .before .before .works3 .ensures, c .before .before .before .works2 .ensures, c .before .before .before .before .before .before .is-working2 .ensures, c .before .before .before .before .before .before .before .works .ensures, c .before .before .before .before .before .before .before .before .before .before .before .is-working .ensures)))
+    (λ c. simp (c .before .before .works3 .ensures, c .before .before .before .works2 .ensures, c .before .before .before .before .before .before .is-working2 .ensures, c .before .before .before .before .before .before .before .works .ensures, c .before .before .before .before .before .before .before .before .before .before .before .is-working .ensures))
+    in tie.close met

@@ -7,11 +7,12 @@ use Rattle.machine_clock.specs.Clock.{turned}
 pub turn-spec : {M : Type 1} → statement M
 unfolding turned
 turn-spec =
-    tie.close
-    (tie.spec
+    let met =
+    tie.spec
     (λ c κs. search needs)
     (λ c κs. search needs)
     (λ c κs. search needs)
     (λ c κs. search needs)
     (λ c κs. search needs)
-    (λ c. simp (c .put-timer .ensures, c .before .ask-timer .ensures, c .before .before .clock-trigger .ensures, c .before .before .before .has-fallen2 .ensures, c .before .before .before .before .has-fallen .ensures)))
+    (λ c. simp (c .put-timer .ensures, c .before .ask-timer .ensures, c .before .before .clock-trigger .ensures, c .before .before .before .has-fallen2 .ensures, c .before .before .before .before .has-fallen .ensures))
+    in tie.close met

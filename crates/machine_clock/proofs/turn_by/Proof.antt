@@ -5,10 +5,11 @@ use Rattle.machine_clock.proofs.turn_by.Tie as tie
 
 pub turn-by-spec : {M : Type 1} → statement M
 turn-by-spec =
-    tie.close
-    (tie.spec
+    let met =
+    tie.spec
     (λ c. search needs)
     (λ c κs. search needs)
     (λ c. search needs)
     (λ c. simp (c .turn .ensures, c .before .before .w .given .1))
-    (λ c. simp (c .enum-told .given .1)))
+    (λ c. simp (c .enum-told .given .1))
+    in tie.close met

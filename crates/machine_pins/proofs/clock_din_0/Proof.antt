@@ -7,9 +7,10 @@ use Rattle.machine_pins.specs.Pins.{din0Clocked}
 pub clock-din-0-spec : {M : Type 1} → statement M
 unfolding din0Clocked
 clock-din-0-spec =
-    tie.close
-    (tie.spec
+    let met =
+    tie.spec
     (λ c κs. search needs)
     (λ c κs. search needs)
     (λ c κs. search needs)
-    (λ c. simp (c .turn .ensures, c .before .clock-if .ensures, c .before .before .gates-of .ensures)))
+    (λ c. simp (c .turn .ensures, c .before .clock-if .ensures, c .before .before .gates-of .ensures))
+    in tie.close met

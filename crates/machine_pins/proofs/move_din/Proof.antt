@@ -7,10 +7,11 @@ use Rattle.machine_pins.specs.Pins.{dinMoved}
 pub move-din-spec : {M : Type 1} → statement M
 unfolding dinMoved
 move-din-spec =
-    tie.close
-    (tie.spec
+    let met =
+    tie.spec
     (λ c κs. search needs)
     (λ c κs. search needs)
     (λ c κs. search needs)
     (λ c κs. search needs)
-    (λ c. simp (c .put-timer .ensures, c .before .before .move-gates .ensures, c .before .before .before .gates-at .ensures, c .before .before .before .before .gates-of .ensures)))
+    (λ c. simp (c .put-timer .ensures, c .before .before .move-gates .ensures, c .before .before .before .gates-at .ensures, c .before .before .before .before .gates-of .ensures))
+    in tie.close met

@@ -7,11 +7,12 @@ use Rattle.machine_pins.specs.Pins.{dinSet}
 pub set-din-spec : {M : Type 1} → statement M
 unfolding dinSet
 set-din-spec =
-    tie.close
-    (tie.spec
+    let met =
+    tie.spec
     (λ c κs. search needs)
     (λ c κs. search needs)
     (λ c κs. search needs)
     (λ c κs. search needs)
     (λ c κs. search needs)
-    (λ c. simp (c .trigger-din-3 .ensures, c .before .has-fallen-3 .ensures, c .before .before .clock-din-0 .ensures, c .before .before .before .has-fallen-0 .ensures, c .before .before .before .before .move-din .ensures)))
+    (λ c. simp (c .trigger-din-3 .ensures, c .before .has-fallen-3 .ensures, c .before .before .clock-din-0 .ensures, c .before .before .before .has-fallen-0 .ensures, c .before .before .before .before .move-din .ensures))
+    in tie.close met

@@ -7,7 +7,8 @@ use Rattle.machine_pins.specs.Pins.{latchSet}
 pub set-latch-spec : {M : Type 1} → statement M
 unfolding latchSet
 set-latch-spec =
-    tie.close
-    (tie.spec
+    let met =
+    tie.spec
     (λ c κs. search needs)
-    (λ c. simp (c .before .ask-latch .ensures)))
+    (λ c. simp (c .before .ask-latch .ensures))
+    in tie.close met

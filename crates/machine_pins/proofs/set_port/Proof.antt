@@ -7,7 +7,8 @@ use Rattle.machine_pins.specs.Pins.{portSet}
 pub set-port-spec : {M : Type 1} → statement M
 unfolding portSet
 set-port-spec =
-    tie.close
-    (tie.spec
+    let met =
+    tie.spec
     (λ c κs. search needs)
-    (λ c. simp (c .set-pins .ensures)))
+    (λ c. simp (c .set-pins .ensures))
+    in tie.close met

@@ -7,8 +7,9 @@ use Rattle.machine_pins.specs.Pins.{din3Triggered}
 pub trigger-din-3-spec : {M : Type 1} → statement M
 unfolding din3Triggered
 trigger-din-3-spec =
-    tie.close
-    (tie.spec
+    let met =
+    tie.spec
     (λ c κs. search needs)
     (λ c κs. search needs)
-    (λ c. simp (c .clock-trigger .ensures, c .before .are-triggers-stopped .ensures)))
+    (λ c. simp (c .clock-trigger .ensures, c .before .are-triggers-stopped .ensures))
+    in tie.close met

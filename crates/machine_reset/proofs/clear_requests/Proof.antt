@@ -7,7 +7,8 @@ use Rattle.machine_reset.specs.Reset.{requestsCleared}
 pub clear-requests-spec : {M : Type 1} → statement M
 unfolding requestsCleared
 clear-requests-spec =
-    tie.close
-    (tie.spec
+    let met =
+    tie.spec
     (λ c κs. search needs)
-    (λ c. simp (c .clear .ensures)))
+    (λ c. simp (c .clear .ensures))
+    in tie.close met

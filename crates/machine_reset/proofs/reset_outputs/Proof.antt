@@ -5,9 +5,10 @@ use Rattle.machine_reset.proofs.reset_outputs.Tie as tie
 
 pub reset-outputs-spec : {M : Type 1} → statement M
 reset-outputs-spec =
-    tie.close
-    (tie.spec
+    let met =
+    tie.spec
     (λ c κs. search needs)
     (λ c κs. search needs)
     (λ c. simp (c .reset-a .ensures, c .before .if1 .taken))
-    (λ c. simp (c .reset-d .ensures, c .before .if1 .left)))
+    (λ c. simp (c .reset-d .ensures, c .before .if1 .left))
+    in tie.close met

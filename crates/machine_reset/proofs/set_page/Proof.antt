@@ -7,7 +7,8 @@ use Rattle.machine_reset.specs.Reset.{pageSet}
 pub set-page-spec : {M : Type 1} → statement M
 unfolding pageSet
 set-page-spec =
-    tie.close
-    (tie.spec
+    let met =
+    tie.spec
     (λ c κs. search needs)
-    (λ c. simp (c .forget-key .ensures)))
+    (λ c. simp (c .forget-key .ensures))
+    in tie.close met

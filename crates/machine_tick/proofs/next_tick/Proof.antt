@@ -6,8 +6,9 @@ use Rattle.machine_tick.proofs.next_tick.Tie as tie
 
 pub next-tick-spec : {M : Type 1} → statement M
 next-tick-spec =
-    tie.close
-    (tie.spec
+    let met =
+    tie.spec
     (λ c. search needs)
     (λ c. simp (lt-ltb _ _ (c .if1 .taken)))
-    (λ c. simp (le-ltb _ _ (c .if1 .left))))
+    (λ c. simp (le-ltb _ _ (c .if1 .left)))
+    in tie.close met

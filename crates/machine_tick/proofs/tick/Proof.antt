@@ -7,10 +7,11 @@ use Rattle.machine_tick.specs.Tick.{ticked}
 pub tick-spec : {M : Type 1} → statement M
 unfolding ticked
 tick-spec =
-    tie.close
-    (tie.spec
+    let met =
+    tie.spec
     (λ c κs. search needs)
     (λ c κs. search needs)
     (λ c κs. search needs)
     (λ c κs. search needs)
-    (λ c. simp (c .tick-outputs .ensures, c .before .tick-counter-1 .ensures, c .before .before .tick-counter-0 .ensures, c .before .before .before .tick-dividers .ensures)))
+    (λ c. simp (c .tick-outputs .ensures, c .before .tick-counter-1 .ensures, c .before .before .tick-counter-0 .ensures, c .before .before .before .tick-dividers .ensures))
+    in tie.close met

@@ -7,10 +7,11 @@ use Rattle.machine_tick.specs.Tick.{counter0Ticked}
 pub tick-counter-0-spec : {M : Type 1} → statement M
 unfolding counter0Ticked
 tick-counter-0-spec =
-    tie.close
-    (tie.spec
+    let met =
+    tie.spec
     (λ c κs. search needs)
     (λ c κs. search needs)
     (λ c κs. search needs)
     (λ c κs. search needs)
-    (λ c. simp (c .turn .ensures, c .before .clock-if .ensures, c .before .before .clocks-0 .ensures, c .before .before .before .gates-of .ensures)))
+    (λ c. simp (c .turn .ensures, c .before .clock-if .ensures, c .before .before .clocks-0 .ensures, c .before .before .before .gates-of .ensures))
+    in tie.close met

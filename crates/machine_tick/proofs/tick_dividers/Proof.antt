@@ -7,8 +7,9 @@ use Rattle.machine_tick.specs.Tick.{dividersTicked}
 pub tick-dividers-spec : {M : Type 1} → statement M
 unfolding dividersTicked
 tick-dividers-spec =
-    tie.close
-    (tie.spec
+    let met =
+    tie.spec
     (λ c κs. search needs)
     (λ c κs. search needs)
-    (λ c. simp (c .before .next-tick2 .ensures, c .before .before .next-tick .ensures)))
+    (λ c. simp (c .before .next-tick2 .ensures, c .before .before .next-tick .ensures))
+    in tie.close met

@@ -7,7 +7,8 @@ use Rattle.machine_tick.specs.Tick.{outputsTicked}
 pub tick-outputs-spec : {M : Type 1} → statement M
 unfolding outputsTicked
 tick-outputs-spec =
-    tie.close
-    (tie.spec
+    let met =
+    tie.spec
     (λ c κs. search needs)
-    (λ c. simp (c .tick .ensures)))
+    (λ c. simp (c .tick .ensures))
+    in tie.close met

@@ -5,7 +5,8 @@ use Rattle.numbers.proofs.fresh.Tie as tie
 
 pub fresh-spec : {M : Type 1} → statement M
 fresh-spec =
-    tie.close
-    (tie.spec
+    let met =
+    tie.spec
     (λ c κs. search needs)
-    (λ c. simp (c .before .fresh .ensures)))
+    (λ c. simp (c .before .fresh .ensures))
+    in tie.close met

@@ -7,10 +7,11 @@ use Rattle.numbers.proofs.fresh_stores.Tie as tie
 
 pub fresh-stores-spec : {M : Type 1} → statement M
 fresh-stores-spec =
-    tie.close
-    (tie.spec
+    let met =
+    tie.spec
     (λ c κs. search needs)
     (λ c κs. search needs)
     (λ c. search needs)
     (λ c. search needs)
-    (λ c. let told = c .before .before .before .before .before .fresh-stores .ensures in (c .number-of .ensures ∙ ap answerNumber (told .0), (told .1 .0, told .1 .1))))
+    (λ c. let told = c .before .before .before .before .before .fresh-stores .ensures in (c .number-of .ensures ∙ ap answerNumber (told .0), (told .1 .0, told .1 .1)))
+    in tie.close met

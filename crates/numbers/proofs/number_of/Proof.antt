@@ -6,8 +6,8 @@ use Rattle.numbers.proofs.number_of.Tie as tie
 
 pub number-of-spec : {M : Type 1} → statement M
 number-of-spec =
-    tie.close
-    (tie.spec
+    let met =
+    tie.spec
     (λ c. search needs)
     (λ c. search needs)
     (λ c. search needs)
@@ -22,4 +22,5 @@ number-of-spec =
     (λ c. simp (c .enum-told .given .1))
     (λ c. simp (c .before .answer .given .1))
     (λ c. simp (c .before .answer2 .given .1))
-    (λ c. simp (c .before .answer3 .given .1) (omega arith)))
+    (λ c. simp (c .before .answer3 .given .1) (omega arith))
+    in tie.close met

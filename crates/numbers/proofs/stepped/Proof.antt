@@ -6,10 +6,11 @@ use Rattle.numbers.proofs.stepped.Tie as tie
 
 pub stepped-spec : {M : Type 1} → statement M
 stepped-spec =
-    tie.close
-    (tie.spec
+    let met =
+    tie.spec
     (λ c κs. search needs)
     (λ c κs. search needs)
     (λ c. search needs)
     (λ c. search needs)
-    (λ c. let told = c .before .before .before .before .before .before .step .ensures in (joined (told .0) (c .number-of .ensures), (told .1 .0, told .1 .1))))
+    (λ c. let told = c .before .before .before .before .before .before .step .ensures in (joined (told .0) (c .number-of .ensures), (told .1 .0, told .1 .1)))
+    in tie.close met

@@ -5,10 +5,11 @@ use Rattle.outputs.proofs.put_code.Tie as tie
 
 pub put-code-spec : {M : Type 1} → statement M
 put-code-spec =
-    tie.close
-    (tie.spec
+    let met =
+    tie.spec
     (λ c κs. search needs)
     (λ c κs. search needs)
     (λ c κs. search needs)
     (λ c κs. search needs)
-    (λ c. simp (c .took-by4 .ensures, c .before .took-by3 .ensures, c .before .before .took-by2 .ensures, c .before .before .before .took-by .ensures)))
+    (λ c. simp (c .took-by4 .ensures, c .before .took-by3 .ensures, c .before .before .took-by2 .ensures, c .before .before .before .took-by .ensures))
+    in tie.close met

@@ -5,9 +5,10 @@ use Rattle.outputs.proofs.reset_a.Tie as tie
 
 pub reset-a-spec : {M : Type 1} → statement M
 reset-a-spec =
-    tie.close
-    (tie.spec
+    let met =
+    tie.spec
     (λ c κs. search needs)
     (λ c κs. search needs)
     (λ c κs. search needs)
-    (λ c. simp (c .clear .ensures, c .before .all-at .ensures, c .before .before .scale .ensures)))
+    (λ c. simp (c .clear .ensures, c .before .all-at .ensures, c .before .before .scale .ensures))
+    in tie.close met

@@ -5,7 +5,8 @@ use Rattle.outputs.proofs.tick.Tie as tie
 
 pub tick-spec : {M : Type 1} → statement M
 tick-spec =
-    tie.close
-    (tie.spec
+    let met =
+    tie.spec
     (λ c κs. search needs)
-    (λ c. simp (c .less .ensures)))
+    (λ c. simp (c .less .ensures))
+    in tie.close met

@@ -5,7 +5,8 @@ use Rattle.outputs.proofs.update.Tie as tie
 
 pub update-spec : {M : Type 1} → statement M
 update-spec =
-    tie.close
-    (tie.spec
+    let met =
+    tie.spec
     (λ c κs. search needs)
-    (λ c. simp (c .update-codes .ensures)))
+    (λ c. simp (c .update-codes .ensures))
+    in tie.close met

@@ -5,9 +5,10 @@ use Rattle.outputs.proofs.update_codes.Tie as tie
 
 pub update-codes-spec : {M : Type 1} → statement M
 update-codes-spec =
-    tie.close
-    (tie.spec
+    let met =
+    tie.spec
     (λ c κs. search needs)
     (λ c κs. search needs)
     (λ c. simp (c .put-code .ensures, rw (c .before .before .before .is-busy .ensures) at (c .before .if1 .taken)))
-    (λ c. simp (rw (c .before .before .is-busy .ensures) at (c .if1 .left))))
+    (λ c. simp (rw (c .before .before .is-busy .ensures) at (c .if1 .left)))
+    in tie.close met

@@ -5,7 +5,8 @@ use Rattle.outputs.proofs.write_msb.Tie as tie
 
 pub write-msb-spec : {M : Type 1} → statement M
 write-msb-spec =
-    tie.close
-    (tie.spec
+    let met =
+    tie.spec
     (λ c κs. search needs)
-    (λ c. simp (c .load-of .ensures)))
+    (λ c. simp (c .load-of .ensures))
+    in tie.close met

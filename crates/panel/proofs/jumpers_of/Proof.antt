@@ -5,9 +5,10 @@ use Rattle.panel.proofs.jumpers_of.Tie as tie
 
 pub jumpers-of-spec : {M : Type 1} → statement M
 jumpers-of-spec =
-    tie.close
-    (tie.spec
+    let met =
+    tie.spec
     (λ c. simp (c .match .keys1))
     (λ c. simp (c .match .keys2))
     (λ c. simp (c .match .keys3))
-    (λ c. simp (ne-eqb _ _ (c .match .rest .1), ne-eqb _ _ (c .match .rest .0 .1), ne-eqb _ _ (c .match .rest .0 .0 .1))))
+    (λ c. simp (ne-eqb _ _ (c .match .rest .1), ne-eqb _ _ (c .match .rest .0 .1), ne-eqb _ _ (c .match .rest .0 .0 .1)))
+    in tie.close met

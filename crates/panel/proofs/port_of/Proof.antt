@@ -5,8 +5,9 @@ use Rattle.panel.proofs.port_of.Tie as tie
 
 pub port-of-spec : {M : Type 1} → statement M
 port-of-spec =
-    tie.close
-    (tie.spec
+    let met =
+    tie.spec
     (λ c. simp (c .match .keys1))
     (λ c. simp (c .match .keys2))
-    (λ c. simp (ne-eqb _ _ (c .match .rest .1), ne-eqb _ _ (c .match .rest .0 .1))))
+    (λ c. simp (ne-eqb _ _ (c .match .rest .1), ne-eqb _ _ (c .match .rest .0 .1)))
+    in tie.close met

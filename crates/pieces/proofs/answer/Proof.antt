@@ -73,8 +73,8 @@ returns c = took-all (c .before .loop .inv .0) (c .loop-test .left) (c .before .
 
 pub answer-spec : {M : Type 1} → statement M
 answer-spec =
-    tie.close
-    (tie.spec
+    let met =
+    tie.spec
     Inv-loop
     μ-loop
     loop-holds
@@ -91,4 +91,5 @@ answer-spec =
     same-length
     same-length-2
     same-length-3
-    returns)
+    returns
+    in tie.close met

@@ -42,8 +42,8 @@ returns-2 c = took-read (c .before .before .before .before .before .before .befo
 
 pub turn-spec : {M : Type 1} → statement M
 turn-spec =
-    tie.close
-    (tie.spec
+    let met =
+    tie.spec
     read-requires
     same-length
     returns
@@ -55,4 +55,5 @@ turn-spec =
     same-length-3
     same-length-4
     same-length-5
-    returns-2)
+    returns-2
+    in tie.close met

@@ -5,7 +5,8 @@ use Rattle.ports.proofs.control_refused.Tie as tie
 
 pub control-refused-spec : {M : Type 1} → statement M
 control-refused-spec =
-    tie.close
-    (tie.spec
+    let met =
+    tie.spec
     (λ c κs. search needs)
-    (λ c. simp (c .is-taken .ensures)))
+    (λ c. simp (c .is-taken .ensures))
+    in tie.close met

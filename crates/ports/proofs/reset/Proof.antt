@@ -5,7 +5,8 @@ use Rattle.ports.proofs.reset.Tie as tie
 
 pub reset-spec : {M : Type 1} → statement M
 reset-spec =
-    tie.close
-    (tie.spec
+    let met =
+    tie.spec
     (λ c κs. search needs)
-    (λ c. simp (c .no-lines .ensures)))
+    (λ c. simp (c .no-lines .ensures))
+    in tie.close met

@@ -5,7 +5,8 @@ use Rattle.ports.proofs.write.Tie as tie
 
 pub write-spec : {M : Type 1} → statement M
 write-spec =
-    tie.close
-    (tie.spec
+    let met =
+    tie.spec
     (λ c κs. search needs)
-    (λ c. simp (c .put-line .ensures)))
+    (λ c. simp (c .put-line .ensures))
+    in tie.close met

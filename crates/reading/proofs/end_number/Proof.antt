@@ -6,8 +6,8 @@ use Rattle.reading.proofs.end_number.Tie as tie
 
 pub end-number-spec : {M : Type 1} → statement M
 end-number-spec =
-    tie.close
-    (tie.spec
+    let met =
+    tie.spec
     (λ c. search needs)
     (λ c. search needs)
     (λ c. search needs)
@@ -17,4 +17,5 @@ end-number-spec =
     (λ c. simp (lt-leb _ _ (c .if1 .left), c .before .enum-told .given .1))
     (λ c. simp (c .enum-told2 .given .1))
     (λ c. simp (c .enum-told3 .given .1))
-    (λ c. simp (c .enum-told4 .given .1)))
+    (λ c. simp (c .enum-told4 .given .1))
+    in tie.close met

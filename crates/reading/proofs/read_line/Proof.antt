@@ -39,8 +39,8 @@ returns-2 c = found-end (c .before .loop .inv) (c .loop-test .left)
 
 pub read-line-spec : {M : Type 1} → statement M
 read-line-spec =
-    tie.close
-    (tie.spec
+    let met =
+    tie.spec
     Inv-loop
     μ-loop
     loop-holds
@@ -50,4 +50,5 @@ read-line-spec =
     add-i
     loop-less
     loop-again
-    returns-2)
+    returns-2
+    in tie.close met

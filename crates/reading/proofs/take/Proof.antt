@@ -7,8 +7,8 @@ use Rattle.reading.specs.Reading.{taken}
 pub take-spec : {M : Type 1} → statement M
 unfolding taken
 take-spec =
-    tie.close
-    (tie.spec
+    let met =
+    tie.spec
     (λ c. search needs)
     (λ c κs. search needs)
     (λ c. search needs)
@@ -35,4 +35,5 @@ take-spec =
     (λ c. simp (c .take-second-hex .ensures, c .before .before .reading6 .given .1))
     (λ c. simp (c .enum-told2 .given .1))
     (λ c. simp (c .enum-told3 .given .1))
-    (λ c. simp (c .enum-told4 .given .1)))
+    (λ c. simp (c .enum-told4 .given .1))
+    in tie.close met

@@ -6,11 +6,12 @@ use Rattle.reading.proofs.take_digit.Tie as tie
 
 pub take-digit-spec : {M : Type 1} → statement M
 take-digit-spec =
-    tie.close
-    (tie.spec
+    let met =
+    tie.spec
     (λ c κs. search needs)
     (λ c κs. search needs)
     (λ c κs. search needs)
     (λ c. simp (c .end-number .ensures, eq-eqb _ _ (c .before .if1 .taken), c .before .before .digit-of .ensures))
     (λ c. simp (c .grow .ensures, rw (c .before .before .before .digit-of .ensures) at (lt-ltb _ _ (c .before .if2 .taken)), ne-eqb _ _ (c .before .before .if1 .left), c .before .before .before .digit-of .ensures))
-    (λ c. simp (rw (c .before .before .digit-of .ensures) at (le-ltb _ _ (c .if2 .left)), ne-eqb _ _ (c .before .if1 .left), c .before .before .digit-of .ensures)))
+    (λ c. simp (rw (c .before .before .digit-of .ensures) at (le-ltb _ _ (c .if2 .left)), ne-eqb _ _ (c .before .if1 .left), c .before .before .digit-of .ensures))
+    in tie.close met

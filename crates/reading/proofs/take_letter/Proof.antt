@@ -5,7 +5,8 @@ use Rattle.reading.proofs.take_letter.Tie as tie
 
 pub take-letter-spec : {M : Type 1} → statement M
 take-letter-spec =
-    tie.close
-    (tie.spec
+    let met =
+    tie.spec
     (λ c. simp (eq-eqb _ _ (c .if1 .taken)))
-    (λ c. simp (ne-eqb _ _ (c .if1 .left))))
+    (λ c. simp (ne-eqb _ _ (c .if1 .left)))
+    in tie.close met

@@ -5,8 +5,8 @@ use Rattle.reading.proofs.take_minus.Tie as tie
 
 pub take-minus-spec : {M : Type 1} → statement M
 take-minus-spec =
-    tie.close
-    (tie.spec
+    let met =
+    tie.spec
     (λ c. search needs)
     (λ c. search needs)
     (λ c. search needs)
@@ -14,4 +14,5 @@ take-minus-spec =
     (λ c. simp (c .enum-told .given .1))
     (λ c. simp (c .enum-told2 .given .1))
     (λ c. simp (c .enum-told3 .given .1))
-    (λ c. simp (c .enum-told4 .given .1)))
+    (λ c. simp (c .enum-told4 .given .1))
+    in tie.close met

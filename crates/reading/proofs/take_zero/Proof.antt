@@ -6,8 +6,9 @@ use Rattle.reading.proofs.take_zero.Tie as tie
 
 pub take-zero-spec : {M : Type 1} → statement M
 take-zero-spec =
-    tie.close
-    (tie.spec
+    let met =
+    tie.spec
     (λ c κs. search needs)
     (λ c. simp (c .end-number .ensures, eq-eqb _ _ (c .before .if1 .taken)))
-    (λ c. simp (ne-eqb _ _ (c .if1 .left))))
+    (λ c. simp (ne-eqb _ _ (c .if1 .left)))
+    in tie.close met

@@ -4,4 +4,7 @@ use Rattle.requests.proofs.write_enables.Statement.{statement}
 use Rattle.requests.proofs.write_enables.Tie as tie
 
 pub write-enables-spec : {M : Type 1} → statement M
-write-enables-spec = tie.close (tie.spec (λ c. simp div-one))
+write-enables-spec =
+    let met =
+    tie.spec (λ c. simp div-one)
+    in tie.close met

@@ -12,8 +12,8 @@ use Rattle.scans.proofs.whole_scans.Tie as tie
 
 pub whole-scans-spec : {M : Type 1} → statement M
 whole-scans-spec =
-    tie.close
-    (tie.spec
+    let met =
+    tie.spec
     (λ c κs. search needs)
     (λ c. search needs)
     (λ c. ltb-false _ _ (neither _ _ (rw (c .before .is-bad-range .ensures) at (c .if1 .left)) .0))
@@ -23,4 +23,5 @@ whole-scans-spec =
     (λ c. mod-le _ _)
     (λ c. sym (length-take _ (c .before .before .before .args .samples .now) ∙ min-eq-left (omega arith)))
     (λ c. whole-part _ _ _ _ (simp (rw (c .before .before .is-bad-range .ensures) at (c .before .if1 .taken))))
-    (λ c. whole-part _ _ _ _ (simp (rw (c .before .before .is-bad-range .ensures) at (c .before .if1 .left)))))
+    (λ c. whole-part _ _ _ _ (simp (rw (c .before .before .is-bad-range .ensures) at (c .before .if1 .left))))
+    in tie.close met

@@ -6,10 +6,11 @@ use Rattle.script.proofs.digit_value.Tie as tie
 
 pub digit-value-spec : {M : Type 1} → statement M
 digit-value-spec =
-    tie.close
-    (tie.spec
+    let met =
+    tie.spec
     (λ c. search needs)
     (λ c. search needs)
     (λ c. search needs)
     (λ c. simp (le-leb _ _ (c .if1 .taken)))
-    (λ c. simp (lt-leb _ _ (c .if1 .left))))
+    (λ c. simp (lt-leb _ _ (c .if1 .left)))
+    in tie.close met

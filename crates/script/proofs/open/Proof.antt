@@ -4,7 +4,8 @@ use Rattle.script.proofs.open.Tie as tie
 
 pub open-spec : {M : Type 1} → statement M
 open-spec =
-    tie.close
-    (tie.spec
+    let met =
+    tie.spec
     (λ c. simp (c .if1 .taken))
-    (λ c. simp (c .if1 .left)))
+    (λ c. simp (c .if1 .left))
+    in tie.close met

@@ -5,12 +5,13 @@ use Rattle.script.proofs.operate.Tie as tie
 
 pub operate-spec : {M : Type 1} → statement M
 operate-spec =
-    tie.close
-    (tie.spec
+    let met =
+    tie.spec
     (λ c κs. search needs)
     (λ c. search needs)
     (λ c κs. search needs)
     (λ c. search needs)
     (λ c κs. search needs)
     (λ c. simp (c .digit-value .ensures, rw (c .before .before .before .is-digit .ensures) at (c .before .before .if1 .taken)))
-    (λ c. simp (c .«open» .ensures, rw (c .before .before .is-digit .ensures) at (c .before .if1 .left))))
+    (λ c. simp (c .«open» .ensures, rw (c .before .before .is-digit .ensures) at (c .before .if1 .left)))
+    in tie.close met

@@ -7,9 +7,10 @@ use Rattle.script.specs.Script.{stepped}
 pub take-byte-spec : {M : Type 1} → statement M
 unfolding stepped
 take-byte-spec =
-    tie.close
-    (tie.spec
+    let met =
+    tie.spec
     (λ c κs. search needs)
     (λ c κs. search needs)
     (λ c. simp (c .name .ensures, c .before .if1 .taken))
-    (λ c. simp (c .operate .ensures, c .before .if1 .left)))
+    (λ c. simp (c .operate .ensures, c .before .if1 .left))
+    in tie.close met

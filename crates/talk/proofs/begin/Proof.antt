@@ -5,7 +5,8 @@ use Rattle.talk.proofs.begin.Tie as tie
 
 pub begin-spec : {M : Type 1} → statement M
 begin-spec =
-    tie.close
-    (tie.spec
+    let met =
+    tie.spec
     (λ c κs. search needs)
-    (λ c. simp (c .fresh .ensures)))
+    (λ c. simp (c .fresh .ensures))
+    in tie.close met

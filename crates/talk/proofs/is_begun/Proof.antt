@@ -5,7 +5,8 @@ use Rattle.talk.proofs.is_begun.Tie as tie
 
 pub is-begun-spec : {M : Type 1} → statement M
 is-begun-spec =
-    tie.close
-    (tie.spec
+    let met =
+    tie.spec
     (λ c κs. search needs)
-    (λ c. c .is-begun .ensures))
+    (λ c. c .is-begun .ensures)
+    in tie.close met

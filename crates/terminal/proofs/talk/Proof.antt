@@ -71,8 +71,8 @@ returns-2 c = search needs
 
 pub talk-spec : {M : Type 1} → statement M
 talk-spec =
-    tie.close
-    (tie.spec
+    let met =
+    tie.spec
     Inv-loop
     μ-loop
     begin-requires
@@ -93,4 +93,5 @@ talk-spec =
     same-length-6
     same-length-7
     same-length-8
-    returns-2)
+    returns-2
+    in tie.close met

@@ -44,8 +44,8 @@ returns c = copied-all (c .before .loop .inv) (c .loop-test .left)
 
 pub copy-spec : {M : Type 1} → statement M
 copy-spec =
-    tie.close
-    (tie.spec
+    let met =
+    tie.spec
     Inv-loop
     μ-loop
     loop-holds
@@ -57,4 +57,5 @@ copy-spec =
     loop-again
     add-result
     same-length
-    returns)
+    returns
+    in tie.close met

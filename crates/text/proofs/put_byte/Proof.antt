@@ -6,11 +6,12 @@ use Rattle.text.proofs.put_byte.Tie as tie
 
 pub put-byte-spec : {M : Type 1} → statement M
 put-byte-spec =
-    tie.close
-    (tie.spec
+    let met =
+    tie.spec
     (λ c κs. search needs)
     (λ c κs. search needs)
     (λ c. search needs)
     (λ c κs. search needs)
     (λ c. search needs)
-    (λ c. wrote-as (simp (c .before .before .before .before .before .hex-digit2 .ensures, c .before .before .before .before .before .before .hex-digit .ensures)) (c .before .before .copy .ensures)))
+    (λ c. wrote-as (simp (c .before .before .before .before .before .hex-digit2 .ensures, c .before .before .before .before .before .before .hex-digit .ensures)) (c .before .before .copy .ensures))
+    in tie.close met

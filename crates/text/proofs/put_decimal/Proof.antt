@@ -6,12 +6,13 @@ use Rattle.text.proofs.put_decimal.Tie as tie
 
 pub put-decimal-spec : {M : Type 1} → statement M
 put-decimal-spec =
-    tie.close
-    (tie.spec
+    let met =
+    tie.spec
     (λ c κs. search needs)
     (λ c. search needs)
     (λ c. search needs)
     (λ c. search needs)
     (λ c κs. search needs)
     (λ c. search needs)
-    (λ c. wrote-as (spelled-part (c .before .before .before .before .before .before .before .spell .ensures)) (c .before .before .copy .ensures)))
+    (λ c. wrote-as (spelled-part (c .before .before .before .before .before .before .before .spell .ensures)) (c .before .before .copy .ensures))
+    in tie.close met

@@ -6,8 +6,8 @@ use Rattle.text.proofs.put_word.Tie as tie
 
 pub put-word-spec : {M : Type 1} → statement M
 put-word-spec =
-    tie.close
-    (tie.spec
+    let met =
+    tie.spec
     (λ c. search needs)
     (λ c κs. search needs)
     (λ c. search needs)
@@ -19,4 +19,5 @@ put-word-spec =
     (λ c. search needs)
     (λ c κs. search needs)
     (λ c. search needs)
-    (λ c. wrote-as (simp (c .before .before .before .before .before .hex-digit4 .ensures, c .before .before .before .before .before .before .hex-digit3 .ensures, c .before .before .before .before .before .before .before .hex-digit2 .ensures, c .before .before .before .before .before .before .before .before .hex-digit .ensures)) (c .before .before .copy .ensures)))
+    (λ c. wrote-as (simp (c .before .before .before .before .before .hex-digit4 .ensures, c .before .before .before .before .before .before .hex-digit3 .ensures, c .before .before .before .before .before .before .before .hex-digit2 .ensures, c .before .before .before .before .before .before .before .before .hex-digit .ensures)) (c .before .before .copy .ensures))
+    in tie.close met

@@ -50,8 +50,8 @@ returns c = spelled-all (c .before .loop .inv) (c .loop-test .left)
 
 pub spell-spec : {M : Type 1} → statement M
 spell-spec =
-    tie.close
-    (tie.spec
+    let met =
+    tie.spec
     Inv-loop
     μ-loop
     cast-digits
@@ -64,4 +64,5 @@ spell-spec =
     array-write-digits-2
     loop-less
     loop-again
-    returns)
+    returns
+    in tie.close met

@@ -7,8 +7,9 @@ use Rattle.timer.specs.Timer.{clockedIf}
 pub clock-if-spec : {M : Type 1} → statement M
 unfolding clockedIf
 clock-if-spec =
-    tie.close
-    (tie.spec
+    let met =
+    tie.spec
     (λ c κs. search needs)
     (λ c. simp (c .clock .ensures, c .before .if1 .taken))
-    (λ c. simp (c .if1 .left)))
+    (λ c. simp (c .if1 .left))
+    in tie.close met

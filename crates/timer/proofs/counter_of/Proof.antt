@@ -5,11 +5,12 @@ use Rattle.timer.proofs.counter_of.Tie as tie
 
 pub counter-of-spec : {M : Type 1} → statement M
 counter-of-spec =
-    tie.close
-    (tie.spec
+    let met =
+    tie.spec
     (λ c. search needs)
     (λ c. search needs)
     (λ c. search needs)
     (λ c. simp (c .before .enum-told .given .1))
     (λ c. simp (c .before .enum-told2 .given .1))
-    (λ c. simp (c .before .enum-told3 .given .1)))
+    (λ c. simp (c .before .enum-told3 .given .1))
+    in tie.close met

@@ -7,8 +7,9 @@ use Rattle.timer.specs.Timer.{moved}
 pub move-counter-spec : {M : Type 1} → statement M
 unfolding moved
 move-counter-spec =
-    tie.close
-    (tie.spec
+    let met =
+    tie.spec
     (λ c κs. search needs)
     (λ c κs. search needs)
-    (λ c. simp (c .cascade .ensures, c .before .put-counter .ensures)))
+    (λ c. simp (c .cascade .ensures, c .before .put-counter .ensures))
+    in tie.close met

@@ -7,9 +7,10 @@ use Rattle.timer.specs.Timer.{gatesMoved}
 pub move-gates-spec : {M : Type 1} → statement M
 unfolding gatesMoved
 move-gates-spec =
-    tie.close
-    (tie.spec
+    let met =
+    tie.spec
     (λ c κs. search needs)
     (λ c κs. search needs)
     (λ c κs. search needs)
-    (λ c. simp (c .move-gate3 .ensures, c .before .move-gate2 .ensures, c .before .before .move-gate .ensures)))
+    (λ c. simp (c .move-gate3 .ensures, c .before .move-gate2 .ensures, c .before .before .move-gate .ensures))
+    in tie.close met

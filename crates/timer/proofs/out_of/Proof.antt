@@ -5,7 +5,8 @@ use Rattle.timer.proofs.out_of.Tie as tie
 
 pub out-of-spec : {M : Type 1} → statement M
 out-of-spec =
-    tie.close
-    (tie.spec
+    let met =
+    tie.spec
     (λ c κs. search needs)
-    (λ c. simp (c .counter-of .ensures)))
+    (λ c. simp (c .counter-of .ensures))
+    in tie.close met

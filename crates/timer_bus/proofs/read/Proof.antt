@@ -7,9 +7,10 @@ use Rattle.timer_bus.specs.Bus.{timerRead}
 pub read-spec : {M : Type 1} → statement M
 unfolding timerRead
 read-spec =
-    tie.close
-    (tie.spec
+    let met =
+    tie.spec
     (λ c κs. search needs)
     (λ c κs. search needs)
     (λ c κs. search needs)
-    (λ c. simp (c .put-counter .ensures, c .before .before .read .ensures, c .before .before .before .counter-of .ensures)))
+    (λ c. simp (c .put-counter .ensures, c .before .before .read .ensures, c .before .before .before .counter-of .ensures))
+    in tie.close met

@@ -7,7 +7,8 @@ use Rattle.timer_bus.specs.Bus.{controlRefused}
 pub refuses-control-spec : {M : Type 1} → statement M
 unfolding controlRefused
 refuses-control-spec =
-    tie.close
-    (tie.spec
+    let met =
+    tie.spec
     (λ c κs. search needs)
-    (λ c. simp (c .refuses-word .ensures)))
+    (λ c. simp (c .refuses-word .ensures))
+    in tie.close met

@@ -7,8 +7,9 @@ use Rattle.timer_bus.specs.Bus.{countRefused}
 pub refuses-count-spec : {M : Type 1} → statement M
 unfolding countRefused
 refuses-count-spec =
-    tie.close
-    (tie.spec
+    let met =
+    tie.spec
     (λ c κs. search needs)
     (λ c κs. search needs)
-    (λ c. simp (c .refuses-byte .ensures, c .before .counter-of .ensures)))
+    (λ c. simp (c .refuses-byte .ensures, c .before .counter-of .ensures))
+    in tie.close met

@@ -7,12 +7,13 @@ use Rattle.timer_bus.specs.Bus.{controlWritten}
 pub write-control-spec : {M : Type 1} → statement M
 unfolding controlWritten
 write-control-spec =
-    tie.close
-    (tie.spec
+    let met =
+    tie.spec
     (λ c κs. search needs)
     (λ c κs. search needs)
     (λ c κs. search needs)
     (λ c κs. search needs)
     (λ c κs. search needs)
     (λ c. simp (rw (c .before .refuses-control .ensures) at (c .if1 .taken)))
-    (λ c. simp (c .move-counter .ensures, c .before .write-word .ensures, c .before .before .counter-of .ensures, c .before .before .before .select-of .ensures, rw (c .before .before .before .before .before .refuses-control .ensures) at (c .before .before .before .before .if1 .left))))
+    (λ c. simp (c .move-counter .ensures, c .before .write-word .ensures, c .before .before .counter-of .ensures, c .before .before .before .select-of .ensures, rw (c .before .before .before .before .before .refuses-control .ensures) at (c .before .before .before .before .if1 .left)))
+    in tie.close met

@@ -7,11 +7,12 @@ use Rattle.timer_bus.specs.Bus.{countWritten}
 pub write-count-spec : {M : Type 1} → statement M
 unfolding countWritten
 write-count-spec =
-    tie.close
-    (tie.spec
+    let met =
+    tie.spec
     (λ c κs. search needs)
     (λ c κs. search needs)
     (λ c κs. search needs)
     (λ c κs. search needs)
     (λ c. simp (rw (c .before .refuses-count .ensures) at (c .if1 .taken)))
-    (λ c. simp (c .move-counter .ensures, c .before .write-byte .ensures, c .before .before .counter-of .ensures, rw (c .before .before .before .before .refuses-count .ensures) at (c .before .before .before .if1 .left))))
+    (λ c. simp (c .move-counter .ensures, c .before .write-byte .ensures, c .before .before .counter-of .ensures, rw (c .before .before .before .before .refuses-count .ensures) at (c .before .before .before .if1 .left)))
+    in tie.close met

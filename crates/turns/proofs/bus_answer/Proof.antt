@@ -5,8 +5,8 @@ use Rattle.turns.proofs.bus_answer.Tie as tie
 
 pub bus-answer-spec : {M : Type 1} → statement M
 bus-answer-spec =
-    tie.close
-    (tie.spec
+    let met =
+    tie.spec
     (λ c. search needs)
     (λ c. search needs)
     (λ c. search needs)
@@ -15,4 +15,5 @@ bus-answer-spec =
     (λ c. simp (c .enum-told .given .1))
     (λ c. simp (c .before .answer .given .1))
     (λ c. simp (c .before .answer2 .given .1))
-    (λ c. simp (c .before .answer3 .given .1)))
+    (λ c. simp (c .before .answer3 .given .1))
+    in tie.close met

@@ -5,8 +5,8 @@ use Rattle.turns.proofs.event_of.Tie as tie
 
 pub event-of-spec : {M : Type 1} → statement M
 event-of-spec =
-    tie.close
-    (tie.spec
+    let met =
+    tie.spec
     (λ c. search needs)
     (λ c. search needs)
     (λ c. search needs)
@@ -14,4 +14,5 @@ event-of-spec =
     (λ c. simp (c .before .access .given .1))
     (λ c. simp (c .before .access2 .given .1))
     (λ c. simp (c .before .access3 .given .1))
-    (λ c. simp (c .before .access4 .given .1)))
+    (λ c. simp (c .before .access4 .given .1))
+    in tie.close met

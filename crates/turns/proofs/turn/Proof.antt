@@ -17,8 +17,8 @@ returns-2 c =
 
 pub turn-spec : {M : Type 1} → statement M
 turn-spec =
-    tie.close
-    (tie.spec
+    let met =
+    tie.spec
     (λ c κs. search needs)
     (λ c κs. search needs)
     (λ c. search needs)
@@ -29,4 +29,5 @@ turn-spec =
     (λ c. search needs)
     (λ c. search needs)
     returns
-    returns-2)
+    returns-2
+    in tie.close met

@@ -5,7 +5,8 @@ use Rattle.turns.proofs.with_answer.Tie as tie
 
 pub with-answer-spec : {M : Type 1} → statement M
 with-answer-spec =
-    tie.close
-    (tie.spec
+    let met =
+    tie.spec
     (λ c κs. search needs)
-    (λ c. rw (c .before .take-answer .ensures)))
+    (λ c. rw (c .before .take-answer .ensures))
+    in tie.close met

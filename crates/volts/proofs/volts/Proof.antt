@@ -107,8 +107,8 @@ returns-3 c =
 
 pub volts-spec : {M : Type 1} → statement M
 volts-spec =
-    tie.close
-    (tie.spec
+    let met =
+    tie.spec
     full-scale-of-requires
     enum-known-full-scale
     int-to-float-t7
@@ -119,4 +119,5 @@ volts-spec =
     enum-told
     returns
     returns-2
-    returns-3)
+    returns-3
+    in tie.close met

@@ -7,8 +7,8 @@ use Rattle.words.specs.Ends.{commandRead}
 pub command-at-spec : {M : Type 1} → statement M
 unfolding commandRead
 command-at-spec =
-    tie.close
-    (tie.spec
+    let met =
+    tie.spec
     (λ c. search needs)
     (λ c. search needs)
     (λ c. search needs)
@@ -30,4 +30,5 @@ command-at-spec =
     (λ c. simp (c .enum-told5 .given .1))
     (λ c. simp (c .before .reading3 .given .1))
     (λ c. simp (c .enum-told6 .given .1))
-    (λ c. simp (c .enum-told7 .given .1)))
+    (λ c. simp (c .enum-told7 .given .1))
+    in tie.close met

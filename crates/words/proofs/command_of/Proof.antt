@@ -6,8 +6,8 @@ use Rattle.words.proofs.command_of.Tie as tie
 
 pub command-of-spec : {M : Type 1} → statement M
 command-of-spec =
-    tie.close
-    (tie.spec
+    let met =
+    tie.spec
     (λ c. search needs)
     (λ c. search needs)
     (λ c. search needs)
@@ -20,4 +20,5 @@ command-of-spec =
     (λ c. simp (le-leb _ _ (c .if2 .taken), c .before .enum-told3 .given .1))
     (λ c. simp (lt-leb _ _ (c .if2 .left), c .before .enum-told3 .given .1))
     (λ c. simp (c .negative .ensures, le-leb _ _ (c .before .if3 .taken), c .before .before .enum-told4 .given .1))
-    (λ c. simp (lt-leb _ _ (c .if3 .left), c .before .enum-told4 .given .1)))
+    (λ c. simp (lt-leb _ _ (c .if3 .left), c .before .enum-told4 .given .1))
+    in tie.close met

@@ -7,8 +7,8 @@ use Rattle.words.specs.Ends.{isBegun}
 pub is-begun-spec : {M : Type 1} → statement M
 unfolding isBegun
 is-begun-spec =
-    tie.close
-    (tie.spec
+    let met =
+    tie.spec
     (λ c. search needs)
     (λ c. search needs)
     (λ c. search needs)
@@ -28,4 +28,5 @@ is-begun-spec =
     (λ c. simp (c .enum-told7 .given .1))
     (λ c. simp (c .enum-told8 .given .1))
     (λ c. simp (c .enum-told9 .given .1))
-    (λ c. simp (c .enum-told10 .given .1)))
+    (λ c. simp (c .enum-told10 .given .1))
+    in tie.close met

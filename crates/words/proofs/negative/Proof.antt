@@ -7,9 +7,10 @@ use Rattle.words.proofs.negative.Tie as tie
 
 pub negative-spec : {M : Type 1} → statement M
 negative-spec =
-    tie.close
-    (tie.spec
+    let met =
+    tie.spec
     (λ c. search needs)
     (λ c. search needs)
     (λ c. simp (eq-eqb _ _ (c .if1 .taken)))
-    (λ c. simp (ne-eqb _ _ (c .if1 .left)) (omega arith)))
+    (λ c. simp (ne-eqb _ _ (c .if1 .left)) (omega arith))
+    in tie.close met

@@ -37,8 +37,8 @@ returns-3 c = search needs
 
 pub clear-spec : {M : Type 1} → statement M
 clear-spec =
-    tie.close
-    (tie.spec
+    let met =
+    tie.spec
     slice-relend-prefix-fresh-stores
     slice-aggregate-fresh-stores
     slice-relend-prefix-fresh-stores-2
@@ -48,4 +48,5 @@ clear-spec =
     same-length-2
     returns
     returns-2
-    returns-3)
+    returns-3
+    in tie.close met

@@ -40,8 +40,8 @@ returns-3 c = search needs
 
 pub happen-spec : {M : Type 1} → statement M
 happen-spec =
-    tie.close
-    (tie.spec
+    let met =
+    tie.spec
     returns
     returns-2
     slice-relend-prefix-step
@@ -52,4 +52,5 @@ happen-spec =
     show-requires
     same-length
     same-length-2
-    returns-3)
+    returns-3
+    in tie.close met

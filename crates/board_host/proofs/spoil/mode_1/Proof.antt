@@ -7,8 +7,9 @@ use Rattle.board_host.specs.Spoils.{mode1}
 pub mode-1-spec : {M : Type 1} → statement M
 unfolding mode1
 mode-1-spec =
-    tie.close
-    (tie.spec
+    let met =
+    tie.spec
     (λ c κs. search needs)
     (λ c κs. search needs)
-    (λ c. simp (c .write-word .ensures, c .before .new .ensures)))
+    (λ c. simp (c .write-word .ensures, c .before .new .ensures))
+    in tie.close met

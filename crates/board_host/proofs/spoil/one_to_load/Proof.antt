@@ -7,8 +7,9 @@ use Rattle.board_host.specs.Spoils.{oneToLoad}
 pub one-to-load-spec : {M : Type 1} → statement M
 unfolding oneToLoad
 one-to-load-spec =
-    tie.close
-    (tie.spec
+    let met =
+    tie.spec
     (λ c κs. search needs)
     (λ c κs. search needs)
-    (λ c. simp (c .before .write-word .ensures, c .before .before .new .ensures)))
+    (λ c. simp (c .before .write-word .ensures, c .before .before .new .ensures))
+    in tie.close met

@@ -7,7 +7,8 @@ use Rattle.board_host.specs.Spoils.{outLow}
 pub out-low-spec : {M : Type 1} → statement M
 unfolding outLow
 out-low-spec =
-    tie.close
-    (tie.spec
+    let met =
+    tie.spec
     (λ c κs. search needs)
-    (λ c. simp (c .before .new .ensures)))
+    (λ c. simp (c .before .new .ensures))
+    in tie.close met

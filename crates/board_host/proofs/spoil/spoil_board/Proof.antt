@@ -7,8 +7,8 @@ use Rattle.board_host.specs.Spoils.{spoiled}
 pub spoil-board-spec : {M : Type 1} → statement M
 unfolding spoiled
 spoil-board-spec =
-    tie.close
-    (tie.spec
+    let met =
+    tie.spec
     (λ c κs. search needs)
     (λ c κs. search needs)
     (λ c κs. search needs)
@@ -18,4 +18,5 @@ spoil-board-spec =
     (λ c κs. search needs)
     (λ c κs. search needs)
     (λ c κs. search needs)
-    (λ c. simp (c .spoil-wiring .ensures, c .before .spoil-pins .ensures, c .before .before .spoil-registers .ensures, c .before .before .before .spoil-calibration .ensures, c .before .before .before .before .spoil-ports .ensures, c .before .before .before .before .before .spoil-outputs .ensures, c .before .before .before .before .before .before .spoil-clocks .ensures, c .before .before .before .before .before .before .before .spoil-channels .ensures, c .before .before .before .before .before .before .before .before .spoil-fifo .ensures)))
+    (λ c. simp (c .spoil-wiring .ensures, c .before .spoil-pins .ensures, c .before .before .spoil-registers .ensures, c .before .before .before .spoil-calibration .ensures, c .before .before .before .before .spoil-ports .ensures, c .before .before .before .before .before .spoil-outputs .ensures, c .before .before .before .before .before .before .spoil-clocks .ensures, c .before .before .before .before .before .before .before .spoil-channels .ensures, c .before .before .before .before .before .before .before .before .spoil-fifo .ensures))
+    in tie.close met

@@ -8,10 +8,11 @@ use Rattle.board_host.specs.Spoils.{spoiledClocks}
 pub spoil-clocks-spec : {M : Type 1} → statement M
 unfolding spoiledClocks
 spoil-clocks-spec =
-    tie.close
-    (tie.spec
+    let met =
+    tie.spec
     (λ c κs. search needs)
     (λ c κs. search needs)
     (λ c. simp (c .before .put-timer .ensures, c .before .before .spoil-timer .ensures, c .match .keys1))
     (λ c. simp (c .before .put-timer .ensures, c .before .before .spoil-timer .ensures, c .match .keys2))
-    (λ c. simp (c .before .put-timer .ensures, c .before .before .spoil-timer .ensures, ne-eqb _ _ (c .match .rest .1), ne-eqb _ _ (c .match .rest .0 .1))))
+    (λ c. simp (c .before .put-timer .ensures, c .before .before .spoil-timer .ensures, ne-eqb _ _ (c .match .rest .1), ne-eqb _ _ (c .match .rest .0 .1)))
+    in tie.close met

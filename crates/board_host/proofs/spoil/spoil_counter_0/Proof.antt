@@ -8,9 +8,10 @@ use Rattle.board_host.specs.Spoils.{spoiledCounter0}
 pub spoil-counter-0-spec : {M : Type 1} → statement M
 unfolding spoiledCounter0
 spoil-counter-0-spec =
-    tie.close
-    (tie.spec
+    let met =
+    tie.spec
     (λ c κs. search needs)
     (λ c κs. search needs)
     (λ c. simp (c .mode-1 .ensures, eq-eqb _ _ (c .before .if1 .taken)))
-    (λ c. simp (c .spoil-counter .ensures, ne-eqb _ _ (c .before .if1 .left))))
+    (λ c. simp (c .spoil-counter .ensures, ne-eqb _ _ (c .before .if1 .left)))
+    in tie.close met

@@ -7,11 +7,12 @@ use Rattle.board_host.specs.Spoils.{spoiledOutputs}
 pub spoil-outputs-spec : {M : Type 1} → statement M
 unfolding spoiledOutputs
 spoil-outputs-spec =
-    tie.close
-    (tie.spec
+    let met =
+    tie.spec
     (λ c. simp (c .match .keys1))
     (λ c. simp (c .before .match .keys2))
     (λ c. simp (c .before .before .before .match .keys3))
     (λ c. simp (c .before .before .before .match .keys4))
     (λ c. simp (c .before .match .keys5))
-    (λ c. simp (ne-eqb _ _ (c .match .rest .1), ne-eqb _ _ (c .match .rest .0 .1), ne-eqb _ _ (c .match .rest .0 .0 .1), ne-eqb _ _ (c .match .rest .0 .0 .0 .1), ne-eqb _ _ (c .match .rest .0 .0 .0 .0 .1))))
+    (λ c. simp (ne-eqb _ _ (c .match .rest .1), ne-eqb _ _ (c .match .rest .0 .1), ne-eqb _ _ (c .match .rest .0 .0 .1), ne-eqb _ _ (c .match .rest .0 .0 .0 .1), ne-eqb _ _ (c .match .rest .0 .0 .0 .0 .1)))
+    in tie.close met

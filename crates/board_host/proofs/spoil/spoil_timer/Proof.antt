@@ -7,9 +7,10 @@ use Rattle.board_host.specs.Spoils.{spoiledTimer}
 pub spoil-timer-spec : {M : Type 1} → statement M
 unfolding spoiledTimer
 spoil-timer-spec =
-    tie.close
-    (tie.spec
+    let met =
+    tie.spec
     (λ c κs. search needs)
     (λ c κs. search needs)
     (λ c κs. search needs)
-    (λ c. simp (c .spoil-counter2 .ensures, c .before .spoil-counter .ensures, c .before .before .spoil-counter-0 .ensures)))
+    (λ c. simp (c .spoil-counter2 .ensures, c .before .spoil-counter .ensures, c .before .before .spoil-counter-0 .ensures))
+    in tie.close met

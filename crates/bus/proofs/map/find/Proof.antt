@@ -8,10 +8,11 @@ use Rattle.bus.specs.Place.{placeOf}
 pub find-spec : {M : Type 1} → statement M
 unfolding placeOf
 find-spec =
-    tie.close
-    (tie.spec
+    let met =
+    tie.spec
     (λ c κs. search needs)
     (λ c κs. search needs)
     (λ c. simp (c .fixed-place .ensures, le-leb _ _ (c .before .if1 .taken)))
     (λ c. simp (c .paged-place .ensures, le-leb _ _ (c .before .if2 .taken), lt-leb _ _ (c .before .before .if1 .left)))
-    (λ c. simp (lt-leb _ _ (c .if2 .left), lt-leb _ _ (c .before .if1 .left))))
+    (λ c. simp (lt-leb _ _ (c .if2 .left), lt-leb _ _ (c .before .if1 .left)))
+    in tie.close met

@@ -65,8 +65,8 @@ returns c = search needs
 
 pub answers-spec : {M : Type 1} → statement M
 answers-spec =
-    tie.close
-    (tie.spec
+    let met =
+    tie.spec
     Inv-loop
     μ-loop
     loop-holds
@@ -86,4 +86,5 @@ answers-spec =
     text-requires-2
     decimal-requires-2
     answer-requires
-    returns)
+    returns
+    in tie.close met

@@ -44,8 +44,8 @@ returns c = search needs
 
 pub number-samples-spec : {M : Type 1} → statement M
 number-samples-spec =
-    tie.close
-    (tie.spec
+    let met =
+    tie.spec
     Inv-loop
     μ-loop
     loop-holds
@@ -57,4 +57,5 @@ number-samples-spec =
     loop-less
     loop-again
     same-length
-    returns)
+    returns
+    in tie.close met

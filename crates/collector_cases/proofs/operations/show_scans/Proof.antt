@@ -9,8 +9,8 @@ use Rattle.collector_cases.proofs.operations.show_scans.Tie as tie
 
 pub show-scans-spec : {M : Type 1} → statement M
 show-scans-spec =
-    tie.close
-    (tie.spec
+    let met =
+    tie.spec
     (λ c. sym (length-take _ (c .before .before .args .samples .now) ∙ min-eq-left (omega arith)))
     (λ c κs. search needs)
     (λ c. search needs)
@@ -24,4 +24,5 @@ show-scans-spec =
     (λ c κs. search needs)
     (λ c. search needs)
     (λ c. search needs)
-    (λ c. search needs))
+    (λ c. search needs)
+    in tie.close met

@@ -5,8 +5,9 @@ use Rattle.converter.proofs.channels.end.Tie as tie
 
 pub end-spec : {M : Type 1} → statement M
 end-spec =
-    tie.close
-    (tie.spec
+    let met =
+    tie.spec
     (λ c κs. search needs)
     (λ c. simp (c .start .ensures, c .before .if1 .taken))
-    (λ c. simp (c .if1 .left)))
+    (λ c. simp (c .if1 .left))
+    in tie.close met

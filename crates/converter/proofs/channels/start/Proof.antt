@@ -5,7 +5,8 @@ use Rattle.converter.proofs.channels.start.Tie as tie
 
 pub start-spec : {M : Type 1} → statement M
 start-spec =
-    tie.close
-    (tie.spec
+    let met =
+    tie.spec
     (λ c κs. search needs)
-    (λ c. simp (c .next-channel .ensures)))
+    (λ c. simp (c .next-channel .ensures))
+    in tie.close met

@@ -8,10 +8,11 @@ use Rattle.converter.proofs.codes.code.Tie as tie
 
 pub code-spec : {M : Type 1} → statement M
 code-spec =
-    tie.close
-    (tie.spec
+    let met =
+    tie.spec
     (λ c. search needs)
     (λ c. search needs)
     (λ c. search needs)
     (λ c. rw (lt-ltb _ _ (c .if1 .taken)))
-    (λ c. rw (le-ltb _ _ (c .if1 .left)) (negative (c .before .args .sample) (c .if1 .left) (omega arith))))
+    (λ c. rw (le-ltb _ _ (c .if1 .left)) (negative (c .before .args .sample) (c .if1 .left) (omega arith)))
+    in tie.close met

@@ -8,10 +8,11 @@ use Rattle.counting_modes.specs.Control.{command}
 pub command-of-spec : {M : Type 1} → statement M
 unfolding command
 command-of-spec =
-    tie.close
-    (tie.spec
+    let met =
+    tie.spec
     (λ c κs. search needs)
     (λ c κs. search needs)
     (λ c. simp (eq-eqb _ _ (c .if1 .taken)))
     (λ c. simp (eq-eqb _ _ (c .if2 .taken), ne-eqb _ _ (c .before .if1 .left)))
-    (λ c. simp (c .choose-mode .ensures, c .before .format-of .ensures, ne-eqb _ _ (c .before .before .if2 .left), ne-eqb _ _ (c .before .before .before .if1 .left))))
+    (λ c. simp (c .choose-mode .ensures, c .before .format-of .ensures, ne-eqb _ _ (c .before .before .if2 .left), ne-eqb _ _ (c .before .before .before .if1 .left)))
+    in tie.close met

@@ -7,12 +7,13 @@ use Rattle.counting_modes.specs.Control.{setupOf}
 pub setup-of-spec : {M : Type 1} → statement M
 unfolding setupOf
 setup-of-spec =
-    tie.close
-    (tie.spec
+    let met =
+    tie.spec
     (λ c κs. search needs)
     (λ c. search needs)
     (λ c. search needs)
     (λ c. search needs)
     (λ c. simp (rw (c .before .before .command-of .ensures) at (c .enum-told .given .1)))
     (λ c. simp (rw (c .before .before .before .command-of .ensures) at (c .before .f .given .1)))
-    (λ c. simp (rw (c .before .before .command-of .ensures) at (c .enum-told2 .given .1))))
+    (λ c. simp (rw (c .before .before .command-of .ensures) at (c .enum-told2 .given .1)))
+    in tie.close met

@@ -5,8 +5,9 @@ use Rattle.numbers.proofs.collecting.access.Tie as tie
 
 pub access-spec : {M : Type 1} → statement M
 access-spec =
-    tie.close
-    (tie.spec
+    let met =
+    tie.spec
     (λ c κs. search needs)
     (λ c κs. search needs)
-    (λ c. simp (c .name-access .ensures, c .before .access-of .ensures)))
+    (λ c. simp (c .name-access .ensures, c .before .access-of .ensures))
+    in tie.close met

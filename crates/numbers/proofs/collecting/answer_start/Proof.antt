@@ -5,10 +5,11 @@ use Rattle.numbers.proofs.collecting.answer_start.Tie as tie
 
 pub answer-start-spec : {M : Type 1} → statement M
 answer-start-spec =
-    tie.close
-    (tie.spec
+    let met =
+    tie.spec
     (λ c. search needs)
     (λ c. search needs)
     (λ c κs. search needs)
     (λ c. simp (c .before .s .given .1))
-    (λ c. simp (c .no-collector .ensures, c .before .before .s2 .given .1)))
+    (λ c. simp (c .no-collector .ensures, c .before .before .s2 .given .1))
+    in tie.close met

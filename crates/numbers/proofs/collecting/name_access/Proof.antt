@@ -5,8 +5,8 @@ use Rattle.numbers.proofs.collecting.name_access.Tie as tie
 
 pub name-access-spec : {M : Type 1} → statement M
 name-access-spec =
-    tie.close
-    (tie.spec
+    let met =
+    tie.spec
     (λ c. search needs)
     (λ c. search needs)
     (λ c. search needs)
@@ -14,4 +14,5 @@ name-access-spec =
     (λ c. simp (c .before .x .given .1))
     (λ c. simp (c .before .x2 .given .1))
     (λ c. simp (c .before .x3 .given .1))
-    (λ c. simp (c .before .x4 .given .1)))
+    (λ c. simp (c .before .x4 .given .1))
+    in tie.close met

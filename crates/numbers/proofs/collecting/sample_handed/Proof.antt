@@ -5,8 +5,8 @@ use Rattle.numbers.proofs.collecting.sample_handed.Tie as tie
 
 pub sample-handed-spec : {M : Type 1} → statement M
 sample-handed-spec =
-    tie.close
-    (tie.spec
+    let met =
+    tie.spec
     (λ c. search needs)
     (λ c. search needs)
     (λ c. search needs)
@@ -16,4 +16,5 @@ sample-handed-spec =
     (λ c. simp (c .enum-told2 .given .1))
     (λ c. simp (c .before .h .given .1))
     (λ c. simp (c .before .h2 .given .1))
-    (λ c. simp (c .enum-told3 .given .1)))
+    (λ c. simp (c .enum-told3 .given .1))
+    in tie.close met

@@ -5,8 +5,9 @@ use Rattle.numbers.proofs.collecting.start.Tie as tie
 
 pub start-spec : {M : Type 1} → statement M
 start-spec =
-    tie.close
-    (tie.spec
+    let met =
+    tie.spec
     (λ c κs. search needs)
     (λ c κs. search needs)
-    (λ c. simp (c .answer-start .ensures, c .before .start .ensures)))
+    (λ c. simp (c .answer-start .ensures, c .before .start .ensures))
+    in tie.close met

@@ -7,7 +7,8 @@ use Rattle.numbers.proofs.collecting.whole_length.Tie as tie
 
 pub whole-length-spec : {M : Type 1} → statement M
 whole-length-spec =
-    tie.close
-    (tie.spec
+    let met =
+    tie.spec
     (λ c κs. search needs)
-    (λ c. ap length (c .whole-scans .ensures .is)))
+    (λ c. ap length (c .whole-scans .ensures .is))
+    in tie.close met

@@ -32,8 +32,8 @@ returns c = search needs
 
 pub pulses-spec : {M : Type 1} → statement M
 pulses-spec =
-    tie.close
-    (tie.spec
+    let met =
+    tie.spec
     Inv-loop
     μ-loop
     loop-holds
@@ -42,4 +42,5 @@ pulses-spec =
     sub-left
     loop-less
     loop-again
-    returns)
+    returns
+    in tie.close met

@@ -45,8 +45,8 @@ returns-3 c = search needs
 
 pub fraction-spec : {M : Type 1} → statement M
 fraction-spec =
-    tie.close
-    (tie.spec
+    let met =
+    tie.spec
     Inv-loop
     μ-loop
     returns
@@ -59,4 +59,5 @@ fraction-spec =
     sub-places
     loop-less
     loop-again
-    returns-3)
+    returns-3
+    in tie.close met

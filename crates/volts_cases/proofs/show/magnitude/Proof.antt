@@ -36,8 +36,8 @@ returns-4 c = search needs
 
 pub magnitude-spec : {M : Type 1} → statement M
 magnitude-spec =
-    tie.close
-    (tie.spec
+    let met =
+    tie.spec
     truncating-f64-to-u64-requires
     over-two-to-18-requires
     nearest-u64-to-f64-requires
@@ -46,4 +46,5 @@ magnitude-spec =
     returns
     returns-2
     returns-3
-    returns-4)
+    returns-4
+    in tie.close met
