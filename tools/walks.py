@@ -25,19 +25,17 @@ EXPORTED = dict(
 # ---- the functions: crate, name, parameters, the event, what is built before it ('struct', NAME) or ('enum', NAME, VARIANT), the event's fields
 FUNCTIONS = [(LENT, 'step', [('event', 'enum/Event')], None, None)]
 KINDS = [
-    ('write_byte', 'write_byte', [('offset', 'u8'), ('value', 'u8')], 'WriteByte', None),
-    ('read_byte', 'read_byte', [('offset', 'u8')], 'ReadByte', None),
-    ('read_word', 'read_word', [('offset', 'u8')], 'ReadWord', None),
-    ('conversion_end', 'conversion_end', [('code', 'i16')], 'ConversionEnd', None),
-    ('din_pins', 'din', [('lines', 'u8')], 'DinPins', ('struct', 'Din')),
-    ('latch_level', 'latch', [('high', 'bool')], 'LatchLevel', None),
-    ('tick', 'tick', [], 'Tick', None),
-    ('transfer_end', 'transfer_end', [], 'TransferEnd', None),
+    ('write_byte', [('offset', 'u8'), ('value', 'u8')], 'WriteByte', None),
+    ('read_byte', [('offset', 'u8')], 'ReadByte', None),
+    ('read_word', [('offset', 'u8')], 'ReadWord', None),
+    ('conversion_end', [('code', 'i16')], 'ConversionEnd', None),
+    ('din', [('lines', 'u8')], 'DinPins', ('struct', 'Din')),
+    ('latch', [('high', 'bool')], 'LatchLevel', None),
+    ('tick', [], 'Tick', None),
+    ('transfer_end', [], 'TransferEnd', None),
 ]
-for lent, exported, params, event, built in KINDS:
-    FUNCTIONS.append((LENT, lent, params, event, built))
-    FUNCTIONS.append((EXPORTED, 'dmm32_' + exported, params, event, built))
-FUNCTIONS.append((LENT, 'port_pins', [('port', 'enum/Port'), ('pins', 'u8')], 'PortPins', None))
+for name, params, event, built in KINDS:
+    FUNCTIONS.append((EXPORTED, 'dmm32_' + name, params, event, built))
 for port in 'abc':
     FUNCTIONS.append((EXPORTED, f'dmm32_port_{port}_pins', [('pins', 'u8')], 'PortPins', ('enum', 'Port', 'Port' + port.upper())))
 
