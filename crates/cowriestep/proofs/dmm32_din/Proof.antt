@@ -39,7 +39,6 @@ use denote.Exit.{yes}
 use Rattle.machine.specs.declared.Board.{Board}
 use Rattle.events.specs.declared.Event.the-variants.{DinPins}
 use Rattle.numbers.specs.declared.Numbered.{Numbered}
-use Rattle.events.specs.declared.Din.{Din}
 use Rattle.events.proofs.Din as Dinᴿ
 use Rattle.events.proofs.Din.Laws as Dinᴸ
 use Rattle.machine.proofs.Board as Boardᴿ

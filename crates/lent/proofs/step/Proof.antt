@@ -26,7 +26,6 @@ use denote.Ref.{RefT, MutRef, ptr-vals, mut-tells}
 use denote.Slice.{MutSlice, Room, slice-vals, mut-slice-tells}
 use denote.Signature.{plain}
 use denote.Steps.{owned, nothing}
-use denote.Struct.Laws as LL
 use denote.Enum.Laws as EL
 use denote.Triple.Statement.{Triple}
 use denote.Triple.Entry.{onEntry}
@@ -44,7 +43,7 @@ use Rattle.events.proofs.Event.Laws as Eventᴸ
 use Rattle.events.proofs.Answer as N
 use Rattle.events.proofs.Answer.Laws as N′
 use Rattle.lent.proofs.Lending as S
-use Rattle.lent.proofs.Lending.{StepC, eval, aval}
+use Rattle.lent.proofs.Lending.{StepC, aval}
 use Rattle.board.proofs.step.Symbol as step-def
 use Rattle.board.proofs.step.Symbol.{name as #board·step}
 use Rattle.board.proofs.step.Met as step-thm
