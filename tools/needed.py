@@ -73,6 +73,8 @@ class Sources:
 
     def libraries_of_values(self, crate):
         done = set()
+        if not any(key[0] == crate for key in self.signatures):
+            return done
         for (owner, module), text in self.text.items():
             for word in set(re.findall(r'(?<![\w:·])[a-zA-Z_]\w*(?:::\w+)*', text)) if owner == crate else ():
                 key = self.found(crate, module, word)

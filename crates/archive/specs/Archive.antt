@@ -12,11 +12,12 @@ use Rattle.collector_settings.specs.declared.Settings.{Settings}
 use Rattle.collector_records.specs.declared.Started.the-variants.{Begun}
 use Rattle.collector_records.specs.Records.{started}
 use Rattle.collector.specs.Kept.{started-begun}
-use Rattle.turns.specs.Real.{lent, real, words}
-use Rattle.archive.specs.Demand.{Demand3}
+use Rattle.turns.specs.Real.{lent, real}
+use Rattle.turns.specs.Hosts.{words}
+use Rattle.archive_demand.specs.Demand.{Demand3}
 use Rattle.archive.specs.RealViews.{Works}
 use Rattle.archive.specs.Real.{real-laws}
-use Rattle.archive.specs.Theorem.{demand3}
+use Rattle.archive_demand.specs.Theorem.{demand3}
 
 pub archive : (b : Board) (memory eeprom : List ℕ) (settings : Settings) (c : Collector) → WorkingBoard b memory → length eeprom ≡ 128
     → started settings ≡ Begun c → Demand3 real words (record { board = lent b memory eeprom; collector = c })

@@ -8,9 +8,10 @@ use Rattle.converter.specs.Codes.{sampleOf}
 use Rattle.converter.specs.Registers.{freshConverter}
 use Rattle.converter.specs.Working.{fresh-works}
 use Rattle.collector_answers.specs.declared.Sample.{Sample}
-use Rattle.turns.specs.Real.{real, words}
-use Rattle.archive.specs.Run.{turn, Run, _▸_}
-use Rattle.archive.specs.Log.{Log, log}
+use Rattle.turns.specs.Real.{real}
+use Rattle.turns.specs.Hosts.{words}
+use Rattle.archive_demand.specs.Run.{turn, Run, _▸_}
+use Rattle.archive_demand.specs.Log.{Log, log}
 use Rattle.archive.specs.RealRuns.{lentWith, heldLog, by-notes}
 use Rattle.archive.specs.Trials.{from, start, sampled, samples, turned}
 

@@ -7,7 +7,7 @@ use lib.Dec.{eqb}
 use lib.ListN.{length}
 use Rattle.fifo.specs.Queue.Laws.{length-queue}
 use Rattle.turns.specs.Real.{Lent, real}
-use Rattle.archive.specs.Laws.{Laws}
+use Rattle.archive_demand.specs.Laws.{Laws}
 use Rattle.archive.specs.RealViews.{Works, step-works, holds, serves}
 use Rattle.archive.specs.RealBus as bus
 use Rattle.archive.specs.RealWorld as world

@@ -31,8 +31,8 @@ use Rattle.board.specs.Begins.{begins}
 use Rattle.events.specs.declared.Answer.the-variants.{Done, Byte, Word}
 use Rattle.events.specs.declared.Event.the-variants.{WriteByte, ReadByte, ReadWord}
 use Rattle.turns.specs.Real.{Lent, real}
-use Rattle.archive.specs.Bits.{sts-shown, ef-shown, hf-shown, ff-shown, ovf-shown, status-narrow}
-use Rattle.archive.specs.Laws.{clocked, cleared, lowered, raised, leaving, Serves, Polls, Looks, Fetches}
+use Rattle.archive_demand.specs.Bits.{sts-shown, ef-shown, hf-shown, ff-shown, ovf-shown, status-narrow}
+use Rattle.archive_demand.specs.Laws.{clocked, cleared, lowered, raised, leaving, Serves, Polls, Looks, Fetches}
 use Rattle.archive.specs.RealViews.{Works, holds, shown, Makes, serves}
 
 module _ (h : Held) where

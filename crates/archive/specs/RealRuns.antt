@@ -42,9 +42,9 @@ use Rattle.collector_phases.specs.Accesses.{accessOf}
 use Rattle.collector_replies.specs.Reply.{replied}
 use Rattle.turns.specs.Machine.{Machine, Host}
 use Rattle.turns.specs.Real.{Lent, real}
-use Rattle.archive.specs.Run.{Run, System, after}
-use Rattle.archive.specs.Log.{Log, asks, log}
-use Rattle.archive.specs.Demand.{look, wordRead, Either, Demand3}
+use Rattle.archive_demand.specs.Run.{Run, System, after}
+use Rattle.archive_demand.specs.Log.{Log, asks, log}
+use Rattle.archive_demand.specs.Demand.{look, wordRead, Either, Demand3}
 use Rattle.archive.specs.RealViews.{Works, step-works, holds, shown, passes, takes-passes}
 use Rattle.archive.specs.Simulates.{Simulates, after-same, log-same}
 use Rattle.archive.specs.Trials.{from}

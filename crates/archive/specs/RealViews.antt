@@ -15,7 +15,7 @@ use Rattle.events.specs.declared.Event.{Event}
 use Rattle.board.specs.Begins.{begins, codeIn}
 use Rattle.turns.specs.Machine.{View}
 use Rattle.turns.specs.Real.{Lent, takes, real}
-use Rattle.archive.specs.Laws.{Happens, Serves}
+use Rattle.archive_demand.specs.Laws.{Happens, Serves}
 
 -- a working board with an EEPROM of its length
 pub record Works (l : Lent) : Type 0 where

@@ -33,8 +33,8 @@ use Rattle.events.specs.declared.Event.{Event}
 use Rattle.events.specs.declared.Event.the-variants.{ConversionEnd, DinPins, LatchLevel, PortPins, Tick, TransferEnd}
 use Rattle.turns.specs.Machine.{View}
 use Rattle.turns.specs.Real.{Lent, real}
-use Rattle.archive.specs.World.{World, conversion-end, din-pins, latch-level, port-pins, tick, transfer-end, eventIn}
-use Rattle.archive.specs.Laws.{starting, Happens, quiet, trigger, end}
+use Rattle.archive_demand.specs.World.{World, conversion-end, din-pins, latch-level, port-pins, tick, transfer-end, eventIn}
+use Rattle.archive_demand.specs.Laws.{starting, Happens, quiet, trigger, end}
 use Rattle.archive.specs.RealViews.{Works, holds, shown, passes, HeldHappens, happens-held}
 
 -- what an event that is not refused leaves

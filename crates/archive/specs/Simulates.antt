@@ -18,9 +18,9 @@ use Rattle.turns.specs.declared.Brought.{Brought}
 use Rattle.turns.specs.declared.Brought.the-variants.{Answered, NotAnswered}
 use Rattle.turns.specs.Machine.{View, Machine, Host}
 use Rattle.turns.specs.Turn.{eventOf, Turning, broughtBy, broughtTo, turnBy}
-use Rattle.archive.specs.World.{eventIn}
-use Rattle.archive.specs.Run.{Happening, turn, world, Run, begin, _▸_, System, next, after}
-use Rattle.archive.specs.Log.{Log, noteWorld, noteTurn, bringsBy, beginsBy, selected, note, log}
+use Rattle.archive_demand.specs.World.{eventIn}
+use Rattle.archive_demand.specs.Run.{Happening, turn, world, Run, begin, _▸_, System, next, after}
+use Rattle.archive_demand.specs.Log.{Log, noteWorld, noteTurn, bringsBy, beginsBy, selected, note, log}
 
 -- the board b of M, while it works, shows what f b of N does
 pub record Simulates (M N : Machine) (Working : M .Board → Type 0) (f : M .Board → N .Board) : Type 0 where

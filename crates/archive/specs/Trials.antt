@@ -8,8 +8,8 @@ use Rattle.collector_records.specs.declared.Started.the-variants.{Begun}
 use Rattle.collector_settings.specs.Settings.{startRefusal}
 use Rattle.collector_records.specs.Records.{begun, started}
 use Rattle.turns.specs.Machine.{Machine}
-use Rattle.archive.specs.World.{World, conversion-end, din-pins}
-use Rattle.archive.specs.Run.{turn, world, Run, begin, _▸_, System}
+use Rattle.archive_demand.specs.World.{World, conversion-end, din-pins}
+use Rattle.archive_demand.specs.Run.{turn, world, Run, begin, _▸_, System}
 
 -- ---- a start that is not refused, and a board with the collector that has begun it
 abbrev pub settings : Settings

@@ -24,9 +24,10 @@ use Rattle.collector_records.specs.Records.{begun}
 use Rattle.collector_phases.specs.Accesses.{accessOf}
 use Rattle.collector_replies.specs.Reply.{replied}
 use Rattle.turns.specs.Machine.{Machine, Host}
-use Rattle.turns.specs.Real.{real, words}
-use Rattle.archive.specs.Run.{turn, world, Run, _▸_}
-use Rattle.archive.specs.Demand.{look, wordRead, Either, first, second, Demand3}
+use Rattle.turns.specs.Real.{real}
+use Rattle.turns.specs.Hosts.{words}
+use Rattle.archive_demand.specs.Run.{turn, world, Run, _▸_}
+use Rattle.archive_demand.specs.Demand.{look, wordRead, Either, first, second, Demand3}
 use Rattle.archive.specs.RealRuns.{holding, lentWith, heldFrom, heldLog, heldAccess, in-order-held, goes-on-held}
 use Rattle.archive.specs.Trials.{from, ends, start, sampled, samples}
 

@@ -14,7 +14,8 @@ use Rattle.turns.specs.declared.Brought.{Brought}
 use Rattle.turns.specs.declared.Brought.the-variants.{Answered, NotAnswered}
 use Rattle.turns.specs.declared.Turned.{Turned}
 use Rattle.turns.specs.Turn.{Turning, eventOf, broughtBy, unturned, broughtTo, turnBy}
-use Rattle.turns.specs.Real.{Lent, lent, real, words, asStruct, lentTurn, Left}
+use Rattle.turns.specs.Real.{Lent, lent, real, asStruct, lentTurn, Left}
+use Rattle.turns.specs.Hosts.{words}
 
 -- what is brought to the collector does not depend on what stands for the board
 apart : (c : Collector) (l : Lent) (b : Board) (x : Brought) → l .board ≡ b

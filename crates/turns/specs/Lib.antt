@@ -1,3 +1,4 @@
 pub mod Machine
+pub mod Hosts
 pub mod Turn
 pub mod Real

@@ -1,4 +1,4 @@
--- A board as the collector and an onlooker see it, and whatever drives it by bus accesses. The product's own are in Real; the theorem about
+-- A board as the collector and an onlooker see it, and whatever drives it by bus accesses. The product's own are in Real and Hosts; the theorem about
 -- them is stated over any board and any driver, so that wrong ones can be refuted too.
 use Prim.Native.Nat.{ℕ}
 use mathlib.Core.Bool.{Bool}

@@ -1,4 +1,4 @@
--- The product's own board and collector: the definitions that `board::step` and the collector's functions promise.
+-- The product's own board: the definitions that `board::step` promises; and a turn of the collector on it.
 use Prim.Native.Nat.{ℕ}
 use mathlib.Core.Path.{_≡_}
 use mathlib.Core.Bool.{Bool, _&&_}
@@ -13,10 +13,9 @@ use Rattle.board.specs.Begins as conversions
 use Rattle.events.specs.declared.Event.{Event}
 use Rattle.events.specs.declared.Event.the-variants.{WriteByte, ReadByte, ReadWord, ConversionEnd, DinPins, LatchLevel, PortPins, Tick, TransferEnd}
 use Rattle.collector_phases.specs.declared.Collector.{Collector}
-use Rattle.collector_phases.specs.Accesses.{accessOf}
-use Rattle.collector_replies.specs.Reply.{replied}
 use Rattle.turns.specs.declared.Turned.{Turned}
-use Rattle.turns.specs.Machine.{Machine, Host}
+use Rattle.turns.specs.Machine.{Machine}
+use Rattle.turns.specs.Hosts.{words}
 use Rattle.turns.specs.Turn.{Turning, turnOf}
 
 -- the board's record with the memories that are lent
@@ -49,10 +48,6 @@ real =
       begins = λ l ev. takes l ev && conversions.begins (l .board) ev;
       ends = λ l ev. if takes l ev then conversions.codeIn ev else none;
     }
-
--- the collector of the specification, which fetches samples by word reads
-abbrev pub words : Host
-words = record { access = accessOf; reply = replied }
 
 -- ---- what `turn` leaves and answers
 abbrev pub asStruct : Turning Board → Turned

@@ -2,7 +2,8 @@
 // access that the collector names is made as an event of the board, and the board's answer is handed to the collector.
 ghost use mathlib.Core.Path.{_≡_};
 ghost use Rattle.turns.specs.Turn.{eventOf, broughtBy, unturned, takenBy, broughtTo};
-ghost use Rattle.turns.specs.Real.{words, asStruct, real, lent, Left, lentTurn};
+ghost use Rattle.turns.specs.Real.{asStruct, real, lent, Left, lentTurn};
+ghost use Rattle.turns.specs.Hosts.{words};
 use board::Answer;
 use board::Board;
 use board::Event;

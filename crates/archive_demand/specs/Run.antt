@@ -9,7 +9,7 @@ use Rattle.collector_answers.specs.declared.Sample.{Sample}
 use Rattle.collector.specs.Handed.{samplesOf, gapMarked}
 use Rattle.turns.specs.Machine.{Machine, Host}
 use Rattle.turns.specs.Turn.{Turning, turnOf}
-use Rattle.archive.specs.World.{World, eventIn}
+use Rattle.archive_demand.specs.World.{World, eventIn}
 
 pub data Happening : Type 0 where
   turn : Happening

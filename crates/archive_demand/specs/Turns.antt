@@ -15,12 +15,12 @@ use Rattle.collector_answers.specs.declared.Sample.{Sample}
 use Rattle.collector_answers.specs.Answers.{sampleAt}
 use Rattle.collector.specs.Handed.{isGo}
 use Rattle.turns.specs.Machine.{View}
-use Rattle.archive.specs.Log.{Log, stretch, noteTurn}
-use Rattle.archive.specs.Laws.{leaving}
-use Rattle.archive.specs.Chain.{follows, Chain, snoc}
-use Rattle.archive.specs.Phases.{wordsOf, length-words, Sixteen, Any, Idle, Quiet, Running, Queue, Loss, no-loss, was-full, Looking, Taking, Draining}
-use Rattle.archive.specs.Ends.{queue-relog}
-use Rattle.archive.specs.Sights.{n}
+use Rattle.archive_demand.specs.Log.{Log, stretch, noteTurn}
+use Rattle.archive_demand.specs.Laws.{leaving}
+use Rattle.archive_demand.specs.Chain.{follows, Chain, snoc}
+use Rattle.archive_demand.specs.Phases.{wordsOf, length-words, Sixteen, Any, Idle, Quiet, Running, Queue, Loss, no-loss, was-full, Looking, Taking, Draining}
+use Rattle.archive_demand.specs.Ends.{queue-relog}
+use Rattle.archive_demand.specs.Sights.{n}
 
 -- ---- a turn at which nothing is handed over changes the log in `waiting` alone
 abbrev pub rewaiting : Log → Option ℕ → Log

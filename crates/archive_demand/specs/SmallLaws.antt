@@ -20,11 +20,11 @@ use Rattle.events.specs.declared.Answer.the-variants.{Done}
 use Rattle.events.specs.declared.Event.{Event}
 use Rattle.events.specs.declared.Event.the-variants.{WriteByte, ReadByte, ReadWord, ConversionEnd, DinPins, LatchLevel, PortPins, Tick, TransferEnd}
 use Rattle.turns.specs.Machine.{View}
-use Rattle.archive.specs.World.{World, conversion-end, din-pins, latch-level, port-pins, tick, transfer-end, eventIn}
-use Rattle.archive.specs.Bits.{sts-shown, ef-shown, hf-shown, ff-shown, ovf-shown, status-narrow}
-use Rattle.archive.specs.Laws.{starting, ending, clocked, lowered, raised}
-use Rattle.archive.specs.Laws.{Happens, quiet, trigger, end, Serves, Polls, Looks, Fetches, Laws}
-use Rattle.archive.specs.Small.{small, smallStep, smallBegins, smallEnds, edgeBegins, written, fifoByte, adByte, fetched}
+use Rattle.archive_demand.specs.World.{World, conversion-end, din-pins, latch-level, port-pins, tick, transfer-end, eventIn}
+use Rattle.archive_demand.specs.Bits.{sts-shown, ef-shown, hf-shown, ff-shown, ovf-shown, status-narrow}
+use Rattle.archive_demand.specs.Laws.{starting, ending, clocked, lowered, raised}
+use Rattle.archive_demand.specs.Laws.{Happens, quiet, trigger, end, Serves, Polls, Looks, Fetches, Laws}
+use Rattle.archive_demand.specs.Small.{small, smallStep, smallBegins, smallEnds, edgeBegins, written, fifoByte, adByte, fetched}
 
 -- ---- a small board works while it holds at most 512 samples, and has OVF only at 512
 pub record SmallWorks (v : View) : Type 0 where

@@ -24,14 +24,14 @@ use Rattle.turns.specs.declared.Asked.the-variants.{Made, NotMade}
 use Rattle.turns.specs.declared.Brought.{Brought}
 use Rattle.turns.specs.declared.Brought.the-variants.{Answered, NotAnswered}
 use Rattle.turns.specs.Turn.{eventOf, broughtBy, broughtTo, turnBy, turnOf}
-use Rattle.turns.specs.Real.{words}
-use Rattle.archive.specs.World.{eventIn}
-use Rattle.archive.specs.Run.{Happening, turn, world, Run, begin, _▸_, System, next, after}
-use Rattle.archive.specs.Log.{Log, asks, note, blank, log, selected}
-use Rattle.archive.specs.Laws.{Laws}
-use Rattle.archive.specs.Phases.{FactOf}
-use Rattle.archive.specs.Worlds.{world-kept}
-use Rattle.archive.specs.Kept.{turn-kept}
+use Rattle.turns.specs.Hosts.{words}
+use Rattle.archive_demand.specs.World.{eventIn}
+use Rattle.archive_demand.specs.Run.{Happening, turn, world, Run, begin, _▸_, System, next, after}
+use Rattle.archive_demand.specs.Log.{Log, asks, note, blank, log, selected}
+use Rattle.archive_demand.specs.Laws.{Laws}
+use Rattle.archive_demand.specs.Phases.{FactOf}
+use Rattle.archive_demand.specs.Worlds.{world-kept}
+use Rattle.archive_demand.specs.Kept.{turn-kept}
 
 -- ---- what a turn leaves: a fit collector with its settings, and the board that the access leaves
 module _ {B : Type 0} (c : Collector) (fc : FitCollector c) (b : B) where

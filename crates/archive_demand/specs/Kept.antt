@@ -32,14 +32,14 @@ use Rattle.collector.specs.Steps.{stopped, poll-wide, poll-free, poll-again, po
 use Rattle.collector.specs.Steps.{look-wide, look-contradicts, look-empty, look-full, look-few, taken, drained, closed}
 use Rattle.turns.specs.Machine.{View, Machine}
 use Rattle.turns.specs.Turn.{Turning, eventOf, turnBy}
-use Rattle.turns.specs.Real.{words}
-use Rattle.archive.specs.Log.{Log, noteTurn, bringsBy, beginsBy, selected}
-use Rattle.archive.specs.Laws.{Laws, Serves, Fetches, clocked, leaving}
-use Rattle.archive.specs.Laws as view
-use Rattle.archive.specs.Chain.{follows}
-use Rattle.archive.specs.Phases.{wordsOf, length-words, Idle, Queue, no-loss, Taking, Draining, Fact, FactOf}
-use Rattle.archive.specs.Sights.{status, no-contradiction, shows-some, shows-all, shows-few}
-use Rattle.archive.specs.Turns.{still, idle-on, quiet-on, running-on, looking-on, look-some, look-all, handing, running-hand, queue-hand, Oldest, oldest-of}
+use Rattle.turns.specs.Hosts.{words}
+use Rattle.archive_demand.specs.Log.{Log, noteTurn, bringsBy, beginsBy, selected}
+use Rattle.archive_demand.specs.Laws.{Laws, Serves, Fetches, clocked, leaving}
+use Rattle.archive_demand.specs.Laws as view
+use Rattle.archive_demand.specs.Chain.{follows}
+use Rattle.archive_demand.specs.Phases.{wordsOf, length-words, Idle, Queue, no-loss, Taking, Draining, Fact, FactOf}
+use Rattle.archive_demand.specs.Sights.{status, no-contradiction, shows-some, shows-all, shows-few}
+use Rattle.archive_demand.specs.Turns.{still, idle-on, quiet-on, running-on, looking-on, look-some, look-all, handing, running-hand, queue-hand, Oldest, oldest-of}
 
 module _ (M : Machine) (Working : M .Board → Type 0) (laws : Laws M Working) where
   module _ (b : M .Board) (wk : Working b) (c : Collector) (fc : FitCollector c) (l : Log) where

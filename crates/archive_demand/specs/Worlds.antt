@@ -15,10 +15,10 @@ use Rattle.collector_phases.specs.declared.Phase.{Phase}
 use Rattle.collector_phases.specs.declared.Phase.the-variants.{Stop, Poll, Range, Clear, Low, High, Go, Look, Take, Drain, Stuck, Unknown}
 use Rattle.collector_phases.specs.Fit.{FitSettings}
 use Rattle.turns.specs.Machine.{View}
-use Rattle.archive.specs.Log.{Log, addSample, counted, atMostOne, noteWorld}
-use Rattle.archive.specs.Laws.{starting, ending, Happens, quiet, trigger, end}
-use Rattle.archive.specs.Phases.{Idle, Quiet, Running, Looking, Taking, Draining, Fact}
-use Rattle.archive.specs.Ends.{settled, queue-begin, queue-relog, look-end, take-end, drain-end}
+use Rattle.archive_demand.specs.Log.{Log, addSample, counted, atMostOne, noteWorld}
+use Rattle.archive_demand.specs.Laws.{starting, ending, Happens, quiet, trigger, end}
+use Rattle.archive_demand.specs.Phases.{Idle, Quiet, Running, Looking, Taking, Draining, Fact}
+use Rattle.archive_demand.specs.Ends.{settled, queue-begin, queue-relog, look-end, take-end, drain-end}
 
 -- ---- what does not depend on the samples
 pub idle-world : (e : Option ℤ) (begins : Bool) (ch : ℕ) (l : Log) → Idle l → Idle (noteWorld e begins ch l)

@@ -21,8 +21,8 @@ use Rattle.events.specs.declared.Answer.the-variants.{Done, Byte, Word}
 use Rattle.events.specs.declared.Event.{Event}
 use Rattle.events.specs.declared.Event.the-variants.{WriteByte, ReadByte, ReadWord, ConversionEnd, DinPins, LatchLevel, PortPins, Tick, TransferEnd}
 use Rattle.turns.specs.Machine.{View, Machine}
-use Rattle.archive.specs.Bits.{statusByte}
-use Rattle.archive.specs.Laws.{starting, ending, clocked, lowered, raised, leaving}
+use Rattle.archive_demand.specs.Bits.{statusByte}
+use Rattle.archive_demand.specs.Laws.{starting, ending, clocked, lowered, raised, leaving}
 
 -- ---- the bus
 -- 7: SCANEN is stored, also beside FIFORST, which empties the memory and clears OVF

@@ -16,8 +16,8 @@ use Rattle.collector_phases.specs.declared.Access.{Access}
 use Rattle.collector_phases.specs.declared.Access.the-variants.{WriteByte, ReadByte, ReadWord, NoAccess}
 use Rattle.collector_answers.specs.declared.Sample.{Sample}
 use Rattle.turns.specs.Machine.{Machine, Host}
-use Rattle.archive.specs.Run.{Happening, turn, Run, begin, _▸_, System, next, given, gap, after, givenIn, gapsIn, turns}
-use Rattle.archive.specs.Log.{Log, asks, log}
+use Rattle.archive_demand.specs.Run.{Happening, turn, Run, begin, _▸_, System, next, given, gap, after, givenIn, gapsIn, turns}
+use Rattle.archive_demand.specs.Log.{Log, asks, log}
 
 -- the codes of samples, and of the 16-bit numbers that the memory holds
 abbrev pub codesOf : List Sample → List ℤ

@@ -18,17 +18,17 @@ use Rattle.collector_phases.specs.Accesses.{accessOf}
 use Rattle.collector_records.specs.Records.{begun}
 use Rattle.collector.specs.Steps.{access-fit}
 use Rattle.turns.specs.Machine.{View, Machine}
-use Rattle.turns.specs.Real.{words}
-use Rattle.archive.specs.Run.{Happening, turn, world, Run, System, given, gap, after}
-use Rattle.archive.specs.Log.{Log, log}
-use Rattle.archive.specs.Demand.{Demand3, Either, first, second, look, wordRead}
-use Rattle.archive.specs.Laws.{Laws}
-use Rattle.archive.specs.Chain.{Chain}
-use Rattle.archive.specs.Phases.{Any, Idle, Running, Queue, Fact, FactOf}
-use Rattle.archive.specs.Invariant.{Sound, sound, facts, s₀, sound₀, fact₀}
-use Rattle.archive.specs.Told.{look-phase, poll-phase, phase-by, stop-phase}
-use Rattle.archive.specs.Looked.{yields-at, marks-at, again-at}
-use Rattle.archive.specs.Starts.{Starting, quiet-turn, ready-at, polls-at, waits-at}
+use Rattle.turns.specs.Hosts.{words}
+use Rattle.archive_demand.specs.Run.{Happening, turn, world, Run, System, given, gap, after}
+use Rattle.archive_demand.specs.Log.{Log, log}
+use Rattle.archive_demand.specs.Demand.{Demand3, Either, first, second, look, wordRead}
+use Rattle.archive_demand.specs.Laws.{Laws}
+use Rattle.archive_demand.specs.Chain.{Chain}
+use Rattle.archive_demand.specs.Phases.{Any, Idle, Running, Queue, Fact, FactOf}
+use Rattle.archive_demand.specs.Invariant.{Sound, sound, facts, s₀, sound₀, fact₀}
+use Rattle.archive_demand.specs.Told.{look-phase, poll-phase, phase-by, stop-phase}
+use Rattle.archive_demand.specs.Looked.{yields-at, marks-at, again-at}
+use Rattle.archive_demand.specs.Starts.{Starting, quiet-turn, ready-at, polls-at, waits-at}
 
 -- ---- what each phase says of the log
 split-prefix : (t : Settings) (next : ℕ) (v : View) (l : Log) (Q L : List Sample) → Queue t next v l Q L → IsPrefix (l .handed) (l .samples)

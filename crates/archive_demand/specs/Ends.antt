@@ -17,10 +17,10 @@ use Rattle.collector_settings.specs.declared.Settings.{Settings}
 use Rattle.collector_answers.specs.declared.Sample.{Sample}
 use Rattle.collector_phases.specs.Fit.{FitSettings}
 use Rattle.turns.specs.Machine.{View}
-use Rattle.archive.specs.Log.{Log, counted, atMostOne, noteWorld}
-use Rattle.archive.specs.Laws.{starting}
-use Rattle.archive.specs.Chain.{follows, join, snoc, follows-from, follows-to, selection-follows}
-use Rattle.archive.specs.Phases.{wordsOf, words-append, Sixteen, Tail, Queue, Loss, no-loss, was-full, Looking, Taking, Draining}
+use Rattle.archive_demand.specs.Log.{Log, counted, atMostOne, noteWorld}
+use Rattle.archive_demand.specs.Laws.{starting}
+use Rattle.archive_demand.specs.Chain.{follows, join, snoc, follows-from, follows-to, selection-follows}
+use Rattle.archive_demand.specs.Phases.{wordsOf, words-append, Sixteen, Tail, Queue, Loss, no-loss, was-full, Looking, Taking, Draining}
 
 -- ---- the queue
 pub queue-begin : (t : Settings) (next : ℕ) (v : View) (l : Log) (Q L : List Sample) → FitSettings t → v .converter .converting ≡ false

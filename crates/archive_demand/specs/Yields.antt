@@ -31,13 +31,13 @@ use Rattle.collector.specs.Steps.{Step, step, access-fit}
 use Rattle.collector.specs.Steps.{look-wide, look-contradicts, look-empty, look-full, look-few, taken, drained, closed}
 use Rattle.turns.specs.Machine.{View, Machine}
 use Rattle.turns.specs.Turn.{Turning, eventOf, turnBy}
-use Rattle.turns.specs.Real.{words}
-use Rattle.archive.specs.World.{World, eventIn}
-use Rattle.archive.specs.Run.{Happening, turn, world, Run, begin, _▸_, System, turning, next, given, gap, after, givenIn, gapsIn, turns}
-use Rattle.archive.specs.Demand.{codesOf, codesIn, owed, look}
-use Rattle.archive.specs.Laws.{Laws, Happens, quiet, trigger, end, ending, Fetches}
-use Rattle.archive.specs.Sights.{status, no-contradiction, shows-none, shows-some, shows-all, shows-few}
-use Rattle.archive.specs.Invariant.{Sound, sound}
+use Rattle.turns.specs.Hosts.{words}
+use Rattle.archive_demand.specs.World.{World, eventIn}
+use Rattle.archive_demand.specs.Run.{Happening, turn, world, Run, begin, _▸_, System, turning, next, given, gap, after, givenIn, gapsIn, turns}
+use Rattle.archive_demand.specs.Demand.{codesOf, codesIn, owed, look}
+use Rattle.archive_demand.specs.Laws.{Laws, Happens, quiet, trigger, end, ending, Fetches}
+use Rattle.archive_demand.specs.Sights.{status, no-contradiction, shows-none, shows-some, shows-all, shows-few}
+use Rattle.archive_demand.specs.Invariant.{Sound, sound}
 
 codes-append : (a b : List Sample) → codesOf (a ++ b) ≡ codesOf a ++ codesOf b
 codes-append [] b = refl

@@ -13,8 +13,8 @@ use Rattle.collector_phases.specs.declared.Phase.{Phase}
 use Rattle.collector_phases.specs.declared.Phase.the-variants.{Stop, Poll, Range, Clear, Low, High, Go, Look, Take, Drain, Stuck, Unknown}
 use Rattle.collector_phases.specs.Phases.{phaseOf}
 use Rattle.turns.specs.Machine.{View}
-use Rattle.archive.specs.Log.{Log}
-use Rattle.archive.specs.Chain.{follows, Chain}
+use Rattle.archive_demand.specs.Log.{Log}
+use Rattle.archive_demand.specs.Chain.{follows, Chain}
 
 -- the 16-bit numbers that samples are in the memory
 abbrev pub wordsOf : List Sample → List ℕ

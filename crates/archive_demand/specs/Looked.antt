@@ -29,13 +29,13 @@ use Rattle.collector.specs.Steps.{Step, access-fit}
 use Rattle.collector.specs.Steps.{poll-wide, poll-free, poll-again, poll-last, ranged, cleared, lowered, raised, went, look-wide, look-contradicts, look-empty, look-full, look-few}
 use Rattle.turns.specs.Machine.{View, Machine}
 use Rattle.turns.specs.Turn.{eventOf, turnBy}
-use Rattle.turns.specs.Real.{words}
-use Rattle.archive.specs.Run.{Happening, turn, world, Run, begin, _▸_, System, turning, next, given, gap, after, givenIn, gapsIn, turns}
-use Rattle.archive.specs.Demand.{codesOf, codesIn, owed, look}
-use Rattle.archive.specs.Laws.{Laws}
-use Rattle.archive.specs.Sights.{status, no-contradiction, shows-none, shows-some, shows-all, shows-few}
-use Rattle.archive.specs.Invariant.{Sound, sound}
-use Rattle.archive.specs.Yields.{Stage, marked, Owing, owing, turn-of, step-in}
+use Rattle.turns.specs.Hosts.{words}
+use Rattle.archive_demand.specs.Run.{Happening, turn, world, Run, begin, _▸_, System, turning, next, given, gap, after, givenIn, gapsIn, turns}
+use Rattle.archive_demand.specs.Demand.{codesOf, codesIn, owed, look}
+use Rattle.archive_demand.specs.Laws.{Laws}
+use Rattle.archive_demand.specs.Sights.{status, no-contradiction, shows-none, shows-some, shows-all, shows-few}
+use Rattle.archive_demand.specs.Invariant.{Sound, sound}
+use Rattle.archive_demand.specs.Yields.{Stage, marked, Owing, owing, turn-of, step-in}
 
 -- ---- how many are owed
 owed-none : (h : List ℕ) → length h ≡ 0 → (leb 512 (length h) ≡ false) × (owed h ≡ 0)

@@ -18,8 +18,8 @@ use Rattle.turns.specs.declared.Asked.{Asked}
 use Rattle.turns.specs.declared.Asked.the-variants.{Made, NotMade}
 use Rattle.turns.specs.Machine.{Machine, Host}
 use Rattle.turns.specs.Turn.{eventOf}
-use Rattle.archive.specs.World.{eventIn}
-use Rattle.archive.specs.Run.{Happening, turn, world, Run, begin, _▸_, System, given, gap, after}
+use Rattle.archive_demand.specs.World.{eventIn}
+use Rattle.archive_demand.specs.Run.{Happening, turn, world, Run, begin, _▸_, System, given, gap, after}
 
 pub record Log : Type 0 where
   -- the conversions begun since the end of the last start that have ended, in order: the channel selected when it began, the code it ended with

@@ -25,12 +25,12 @@ use Rattle.collector.specs.Steps.{Step, access-fit}
 use Rattle.collector.specs.Steps.{stopped, poll-wide, poll-free, poll-again, poll-last, ranged, cleared, lowered, raised, went, stands}
 use Rattle.turns.specs.Machine.{Machine}
 use Rattle.turns.specs.Turn.{Turning, eventOf, turnBy, takenBy}
-use Rattle.turns.specs.Real.{words}
-use Rattle.archive.specs.Run.{Happening, turn, world, Run, begin, _▸_, System, turning, next, given, gap, after, turns}
-use Rattle.archive.specs.Demand.{look, Either, first, second}
-use Rattle.archive.specs.Laws.{Laws, Serves}
-use Rattle.archive.specs.Invariant.{Sound, sound}
-use Rattle.archive.specs.Yields.{turn-of, step-in}
+use Rattle.turns.specs.Hosts.{words}
+use Rattle.archive_demand.specs.Run.{Happening, turn, world, Run, begin, _▸_, System, turning, next, given, gap, after, turns}
+use Rattle.archive_demand.specs.Demand.{look, Either, first, second}
+use Rattle.archive_demand.specs.Laws.{Laws, Serves}
+use Rattle.archive_demand.specs.Invariant.{Sound, sound}
+use Rattle.archive_demand.specs.Yields.{turn-of, step-in}
 
 -- the phases of a start, and the stuck one
 abbrev pub Starting : Phase → Type 0

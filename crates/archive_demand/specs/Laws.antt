@@ -20,7 +20,7 @@ use Rattle.collector_settings.specs.declared.Settings.{Settings}
 use Rattle.collector_settings.specs.Settings.{clockByte}
 use Rattle.collector_answers.specs.Answers.{wide, STS, EF, HF, FF, OVF}
 use Rattle.turns.specs.Machine.{View, Machine}
-use Rattle.archive.specs.World.{World, eventIn}
+use Rattle.archive_demand.specs.World.{World, eventIn}
 
 -- ---- what events make of the view
 -- a conversion begins on the selected channel, and the selection moves
