@@ -93,9 +93,9 @@ def operations(code):
 
 
 def keeps_shape(crate, wrong):
-    """Whether the proof files fit the changed code still: operands, constants and tests may change, and promises and definitions, but no operation."""
+    """Whether a proof of the right code fits the changed code still: operands, constants and tests may change, and promises and definitions, but no operation."""
     for p in wrong.pairs:
         part = crate.at(p.file, line_of(crate, p))
-        if part in crate.functions and part in crate.proof_files and line_of(crate, p) >= crate.body_line(part) and operations(p.old) != operations(p.new):
+        if part in crate.functions and line_of(crate, p) >= crate.body_line(part) and operations(p.old) != operations(p.new):
             return False
     return True

@@ -12,7 +12,7 @@ Refusal = collections.namedtuple('Refusal', 'part false said')
 SECOND_HAND = 'was not admitted'
 # Two terms that should be equal are not; what should follow does not, with numbers at which it fails; no way that is given proves it.
 FALSE = re.compile(
-    r'the two types (?:first )?differ|the two types are|but this has type'
+    r'the two types (?:first )?differ|the two types are|but this has type|` ≟ `'
     r'|must be a path whose two ends are equal'
     r'|All of that holds, and the goal fails'
     r'|`search`: no proof of|`search` does not close')

@@ -95,10 +95,10 @@ returns-2 : tie.Need-returns-2
 returns-2 c =
     let s = c .before .before in
     rw (added s, back s)
-    (answer s (nearest (natAbs (height s)) (s .args .swing)) (rw (known (c .before) .1, le-leb _ _ (rw (added s, back s) at (c .if2 .taken)))))
+    (answer s (nearest (natAbs (height s)) (s .args .swing)) (rw (known (c .before) .1, le-leb (nearest (natAbs (height s)) (s .args .swing)) 4095 (rw (added s, back s) at (c .if2 .taken)))))
 
 returns-3 : tie.Need-returns-3
-returns-3 c = let s = c .before .before in answer s 65554 (rw (known (c .before) .1, lt-leb _ _ (rw (added s, back s) at (c .if2 .left))))
+returns-3 c = let s = c .before .before in answer s 65554 (rw (known (c .before) .1, lt-leb (nearest (natAbs (height s)) (s .args .swing)) 4095 (rw (added s, back s) at (c .if2 .left))))
 
 pub code-in-spec : {M : Type 1} → statement M
 code-in-spec =

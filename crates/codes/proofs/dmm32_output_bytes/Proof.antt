@@ -20,7 +20,7 @@ passed (given n) r channel s e h = absurd (omega arith)
 passed (refused n) r channel s e h = e
 
 returns : tie.Need-returns
-returns c = rw (lt-leb _ _ (c .if1 .taken))
+returns c = rw (lt-leb _ 3 (c .if1 .taken))
 
 dmm32-output-code-requires : tie.Need-dmm32-output-code-requires
 dmm32-output-code-requires c κs = search needs
@@ -37,13 +37,13 @@ called c = rw (toZ-ofZ (c .before .before .fits .microvolts)) at (c .dmm32-outpu
 returns-2 : tie.Need-returns-2
 returns-2 c =
     let s = c .before .before .before in
-    rw (le-leb _ _ (c .before .before .if1 .left))
+    rw (le-leb _ 3 (c .before .before .if1 .left))
     (loaded (outputOf (s .args .microvolts) (s .args .range)) (c .before .dmm32-output-code .result) (s .args .channel) (called (c .before)) (c .if2 .taken))
 
 returns-3 : tie.Need-returns-3
 returns-3 c =
     let s = c .before .before .before in
-    rw (le-leb _ _ (c .before .before .if1 .left))
+    rw (le-leb _ 3 (c .before .before .if1 .left))
     (passed (outputOf (s .args .microvolts) (s .args .range)) (c .before .dmm32-output-code .result) (s .args .channel) (code-within (rangeOf (s .args .range)) (s .args .microvolts)) (called (c .before)) (c .if2 .left))
 
 pub dmm32-output-bytes-spec : {M : Type 1} → statement M

@@ -10,6 +10,6 @@ hex-digit-spec =
     tie.spec
     (λ c. search needs)
     (λ c. search needs)
-    (λ c. simp (lt-ltb _ _ (c .if1 .taken)))
-    (λ c. simp (le-ltb _ _ (c .if1 .left)))
+    (λ c. simp (lt-ltb _ 10 (c .if1 .taken)))
+    (λ c. simp (le-ltb _ 10 (c .if1 .left)))
     in tie.close met
