@@ -14,7 +14,7 @@ SECOND_HAND = 'was not admitted'
 FALSE = re.compile(
     r'the two types (?:first )?differ|the two types are|but this has type|` ≟ `'
     r'|must be a path whose two ends are equal'
-    r'|All of that holds, and the goal fails'
+    r'|All of that holds, and the (?:goal|part) fails'
     r'|`search`: no proof of|`search` does not close')
 # The proof does not fit the code, or a step of it found nothing to do.
 UNFIT = re.compile(r'can be named from here|has no field|no occurrence of|has an instance')
