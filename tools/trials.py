@@ -95,11 +95,11 @@ def noticers_of(option, sources, trials):
     if option == "--specs":
         return [Proofs(sources, trials)]
     if option == "--model":
-        return [Library(sources, "the model", "board", "tests/host/model/run")]
+        return [Library(sources, "the model", "board", "tests/host/model/run", "")]
     named = Programs(sources, named_runs(), 0)
     if option == "--cases":
         return [named]
-    return [named, Library(sources, "tests/host", "cowriestep", "tests/host/run"), Programs(sources, longer_runs(), 1)]
+    return [named, Library(sources, "tests/host", "cowriestep", "tests/host/run", "libcowriestep.a"), Programs(sources, longer_runs(), 1)]
 
 
 def main():

@@ -10,13 +10,13 @@ from trials_programs import CASES, OWN, ROOT
 class Library:
     """One script of tests/host, run against libcowriestep.a of the changed sources."""
 
-    def __init__(self, sources, what, above, script):
-        """`above` is the crate that reaches all crates whose changes the script can notice; it is told the folder or the file of the library."""
+    def __init__(self, sources, what, above, script, told):
+        """`above` is the crate that reaches all whose changes the script can notice; the script is told this file of the library's folder."""
         self.sources, self.what, self.script = sources, what, os.path.join(ROOT, *script.split("/"))
         self.crates = {above, *sources.reached(above)}
         self.folder = os.path.join(sources.work, "library")
         self.archive = os.path.join(self.folder, "libcowriestep.a")
-        self.told = self.folder if what == "the model" else self.archive
+        self.told = os.path.join(self.folder, told)
         os.makedirs(self.folder)
 
     def build(self):
