@@ -5,11 +5,11 @@ NOT_MADE = "BAD CHANGE", "NOT COMPILED"
 
 
 def read_results(lines):
-    """(heading, sentence, what noticed it) of each line."""
+    """(heading, sentence, what noticed it) of each line that tells of a change."""
     results = []
     for line in lines:
         parts = line.rstrip("\n").split(" | ")
-        if len(parts) == 3:
+        if len(parts) == 3 and not line.startswith("|"):
             what = "nothing" if parts[2] == "UNNOTICED" else parts[2].split(": ")[0]
             results.append((parts[0].replace(".antt", ""), parts[1], what))
     return results
