@@ -82,7 +82,7 @@ def try_one(sources, noticers, trial):
             with open(path, "w", encoding="utf-8") as out:
                 out.write(edited(text, function, old, new))
         return first_notice(noticers, trial.files())
-    except (ValueError, AttributeError) as wrong:
+    except (ValueError, AttributeError, OSError) as wrong:
         return "BAD CHANGE", str(wrong)
     finally:
         for path, text in before.items():
