@@ -125,13 +125,7 @@ class Crate:
 
     @functools.lru_cache(None)
     def rests(self, part):
-        seen, todo = set(), [part]
-        while todo:
-            for one in self.direct(todo.pop()):
-                if one not in seen:
-                    seen.add(one)
-                    todo.append(one)
-        return frozenset(seen)
+        return all_ways(self.direct, part)
 
     @functools.lru_cache(None)
     def called(self, part):
@@ -143,13 +137,7 @@ class Crate:
     @functools.lru_cache(None)
     def reached(self, part):
         """The functions of the crate that a function calls, by any way."""
-        seen, todo = set(), [part]
-        while todo:
-            for one in self.called(todo.pop()):
-                if one not in seen:
-                    seen.add(one)
-                    todo.append(one)
-        return frozenset(seen)
+        return all_ways(self.called, part)
 
     def at(self, file, line):
         """The part of src/, specs/ or proofs/ that has this line of a file; a function, for a line of its own proof."""
@@ -177,6 +165,16 @@ class Crate:
     def full_name(self, part):
         module = os.path.basename(part.file)[:-3]
         return '::'.join([self.name] + ([] if module in ('lib', 'main') else [module]) + [part.name])
+
+
+def all_ways(step, start):
+    """What `step` leads to from a part, in one step or more."""
+    seen, todo = set(), [start]
+    while todo:
+        for one in step(todo.pop()) - seen:
+            seen.add(one)
+            todo.append(one)
+    return frozenset(seen)
 
 
 def contract(text):
