@@ -5,14 +5,14 @@
  * "The manual" is the board's, V2.64, with the data sheet of its 82C54 timer.
  *
  * Who owns what. The host keeps one record (struct dmm32_board), a sample memory of 512 numbers and an EEPROM of 128 bytes for each board, and lends
- * all three to a call. The library keeps nothing between calls, allocates nothing and has no state of its own: boards are independent, a record may
- * be copied or saved, and calls over different boards may run in different threads.
+ * all three to a call. The library keeps nothing between calls, allocates nothing and has no state of its own: boards are independent, and calls over
+ * different boards may run in different threads. No record has padding: it may be copied, saved and compared as its bytes, and records that come from
+ * elsewhere (a snapshot, a damaged page) may be lent as they are, whatever bytes they hold.
  *
- * Any other value of any parameter is answered, wrong lengths and damaged records too. The host's own duty is:
+ * Every value of every parameter is answered, wrong lengths and damaged records too. The host's own duty is:
  *   - no pointer is null, also where its length is 0; each points to what its type says, aligned as C aligns it, and a length is not more than what is there
- *   - record, sample memory and EEPROM of one call do not overlap, and no other thread uses them during the call
- *   - a bool, as a parameter or inside a record, is 0 or 1 (C's own conversion to bool makes it so)
- * The records have padding bytes, which are not looked at and may change: compare records field by field.
+ *   - record, sample memory and EEPROM of one call do not overlap
+ *   - no other thread uses them during the call
  */
 #ifndef COWRIESTEP_H
 #define COWRIESTEP_H
@@ -73,7 +73,10 @@ extern "C" {
 #define COWRIESTEP_WORD 2                    /* a sample was read */
 #define COWRIESTEP_REFUSED 3                 /* refused */
 
-/* ---- the record of a board. In brackets: what a working board has; where there are none, any value. Otherwise every event is refused by 1 */
+/*
+ * ---- the record of a board. In brackets: what a working board has; where there are none, any value. Otherwise every event is refused by 1.
+ * A flag is 1 where it is set and 0 where it is clear, and is nothing else in a working board: [flag].
+ */
 
 /* channels and conversions (manual 10, 11.3, 11.4) */
 struct dmm32_converter {
@@ -81,33 +84,33 @@ struct dmm32_converter {
     uint8_t high;                            /* high channel, Base + 3 [0-31]; it may be below low */
     uint8_t selected;                        /* the channel that the next conversion takes [0-31] */
     uint8_t channel;                         /* the channel of the conversion in progress, or of the last one [0-31] */
-    bool converting;                         /* STS: a conversion is in progress */
-    bool scanen;                             /* SCANEN, Base + 7 bit 2 */
-    bool clken;                              /* CLKEN, Base + 9 bit 1 */
+    uint8_t converting;                      /* STS: a conversion is in progress [flag] */
+    uint8_t scanen;                          /* SCANEN, Base + 7 bit 2 [flag] */
+    uint8_t clken;                           /* CLKEN, Base + 9 bit 1 [flag] */
 };
 
 /* request flags, as in Base + 9 read: the board asks for an interrupt while one of them is set */
 struct dmm32_flags {
-    bool adint;                              /* bit 7 */
-    bool dint;                               /* bit 6 */
-    bool tint;                               /* bit 5 */
+    uint8_t adint;                           /* bit 7 [flag] */
+    uint8_t dint;                            /* bit 6 [flag] */
+    uint8_t tint;                            /* bit 5 [flag] */
 };
 
 /* what is requested when (manual 11.1, 11.2) */
 struct dmm32_requests {
     uint8_t threshold;                       /* Base + 6: the threshold is twice this byte */
-    bool fifoen;                             /* FIFOEN, Base + 7 bit 3 */
-    bool clksel;                             /* CLKSEL, Base + 9 bit 0 */
-    bool adinte;                             /* ADINTE, Base + 9 bit 7 */
-    bool dinte;                              /* DINTE, Base + 9 bit 6 */
-    bool tinte;                              /* TINTE, Base + 9 bit 5 */
+    uint8_t fifoen;                          /* FIFOEN, Base + 7 bit 3 [flag] */
+    uint8_t clksel;                          /* CLKSEL, Base + 9 bit 0 [flag] */
+    uint8_t adinte;                          /* ADINTE, Base + 9 bit 7 [flag] */
+    uint8_t dinte;                           /* DINTE, Base + 9 bit 6 [flag] */
+    uint8_t tinte;                           /* TINTE, Base + 9 bit 5 [flag] */
     struct dmm32_flags flags;
 };
 
 /* the sample memory's state (manual 11.2). The samples held are the first `held` numbers of the memory, oldest first [the other numbers are 0] */
 struct dmm32_fifo {
     uint16_t held;                           /* samples held [0-512] */
-    bool ovf;                                /* OVF: a sample was lost [only at 512 held] */
+    uint16_t ovf;                            /* OVF: a sample was lost [flag; set only at 512 held] */
 };
 
 struct dmm32_registers {
@@ -126,7 +129,7 @@ struct dmm32_codes {
 };
 
 struct dmm32_load {
-    bool loaded;                             /* whether Base + 5 was written since a reset */
+    uint8_t loaded;                          /* Base + 5 was written since a reset [flag] */
     uint8_t channel;                         /* the channel that it loaded [0-3] */
     uint16_t code;                           /* the code that it loaded [0-4095] */
 };
@@ -142,23 +145,23 @@ struct dmm32_outputs {
 struct dmm32_count {
     uint16_t count_register;                 /* the count to load, CR; 0 is 65,536 [not 1 in mode 2] */
     uint16_t element;                        /* the count as it stands, CE */
-    bool out;                                /* OUT [1 in an unprogrammed counter] */
-    bool waiting;                            /* a whole count was written and is loaded on the next clock pulse */
-    bool loaded;                             /* a count was loaded since the control word */
+    uint8_t out;                             /* OUT [flag; 1 in an unprogrammed counter] */
+    uint8_t waiting;                         /* a whole count was written and is loaded on the next clock pulse [flag] */
+    uint16_t loaded;                         /* a count was loaded since the control word [flag] */
 };
 
 struct dmm32_counter_bytes {
     uint16_t latch;                          /* the latched count, OL */
-    bool latched;                            /* whether a count is latched */
-    bool halfread;                           /* the low byte of two was read */
+    uint8_t latched;                         /* a count is latched [flag] */
+    uint8_t halfread;                        /* the low byte of two was read [flag] */
     uint8_t first;                           /* the low byte of two that was written */
-    bool halfwritten;                        /* the low byte of two was written */
+    uint8_t halfwritten;                     /* the low byte of two was written [flag] */
 };
 
 struct dmm32_counter {
     uint8_t control;                         /* the control word's bits 5-0 as written, RW1 RW0 M2 M1 M0 BCD; 0: unprogrammed
                                                 [0, or below 64 with RW not 0, BCD 0 and M2 M1 M0 one of 000, 010, 110] */
-    bool trigger;                            /* the flip-flop that a rising GATE sets in mode 2 */
+    uint8_t trigger;                         /* the flip-flop that a rising GATE sets in mode 2 [flag] */
     struct dmm32_count count;
     struct dmm32_counter_bytes bytes;
 };
@@ -194,21 +197,21 @@ struct dmm32_calibration {
     uint8_t value;                           /* the data register, offset 12 */
     uint8_t address;                         /* the address register, offset 13 [0-127] */
     uint8_t transfer;                        /* the transfer that runs: 0 none, 1 EEPROM read, 2 EEPROM write, 3 RUNCAL, 4 TrimDAC [0-4] */
-    bool key;                                /* whether the key A5 was written */
-    bool cmuxen;                             /* CMUXEN */
+    uint8_t key;                             /* the key A5 was written [flag] */
+    uint8_t cmuxen;                          /* CMUXEN [flag] */
     uint8_t trim[8];                         /* the TrimDAC's values */
 };
 
 /* the levels of the pins that the host gave */
 struct dmm32_pins {
     uint8_t din;                             /* DIN3-0 [0-15] */
-    bool latch;                              /* the Latch pin */
+    uint8_t latch;                           /* the Latch pin [flag] */
 };
 
 /* the jumpers (manual 5.4, 5.5) */
 struct dmm32_wiring {
     uint8_t inputs;                          /* channel configuration, COWRIESTEP_JUMPERS_A to _D [0-3] */
-    bool zeroscale;                          /* RESETA sets the outputs to 0, else to 2048 */
+    uint8_t zeroscale;                       /* RESETA sets the outputs to 0, else to 2048 [flag] */
 };
 
 struct dmm32_board {
@@ -232,11 +235,11 @@ struct dmm32_board {
 #define COWRIESTEP_JUMPERS_D 3               /* channels 0-23 */
 
 /*
- * A fresh board's record: as after RESETA, counters unprogrammed, dividers 0, DIN 15, Latch and port pins 0, TrimDAC 0. zero_scale says whether the
- * outputs are jumpered to go to 0 at a RESETA, else to 2048. jumpers above 3 are no configuration: the record that comes back keeps the number in
- * wiring.inputs and is otherwise fresh, so it is no working board's, and every event is refused by 1.
+ * A fresh board's record: as after RESETA, counters unprogrammed, dividers 0, DIN 15, Latch and port pins 0, TrimDAC 0. zero_scale: with any
+ * number but 0 the outputs are jumpered to go to 0 at a RESETA, with 0 to 2048. jumpers above 3 are no configuration: the record that comes back keeps
+ * the number in wiring.inputs (255 for any above) and is otherwise fresh, so it is no working board's, and every event is refused by 1.
  */
-struct dmm32_board dmm32_fresh(uint8_t jumpers, bool zero_scale);
+struct dmm32_board dmm32_fresh(uint32_t jumpers, uint32_t zero_scale);
 
 /* Zeroes a sample memory and an EEPROM, as a fresh board has them, and answers done; or, with wrong lengths, leaves both and answers refusal 2. */
 uint32_t dmm32_fresh_stores(uint16_t *memory, size_t memory_length, uint8_t *eeprom, size_t eeprom_length);
@@ -249,17 +252,18 @@ bool dmm32_is_working(struct dmm32_board board, const uint16_t *memory, size_t m
  *
  * Each changes the record and both memories as the board would be changed, and answers one number as above. Check order: 2, 1, then 3 or 5, then 4 or 10,
  * then 6, 9, 8, 7; the first that holds is the answer, and then nothing changes. Every event can answer 2 and 1; the others are named below.
- * Offsets, bytes and levels are 8 bits wide and codes 16, as on the board's bus; a number that its type can't hold is cut by C itself at the call.
+ * Offsets and levels are 32 bits wide, so that none is cut before it is judged: 256 is refused as 16 is. A byte has 8 bits and a code 16, as on the
+ * board's bus.
  */
 
 /* The guest writes a byte at Base + offset. Done, or refusal 3, 6, 7, 8, 9. */
-uint32_t dmm32_write_byte(struct dmm32_board *board, uint16_t *memory, size_t memory_length, uint8_t *eeprom, size_t eeprom_length, uint8_t offset, uint8_t value);
+uint32_t dmm32_write_byte(struct dmm32_board *board, uint16_t *memory, size_t memory_length, uint8_t *eeprom, size_t eeprom_length, uint32_t offset, uint8_t value);
 
 /* The guest reads a byte at Base + offset. The byte, or refusal 3, 7. */
-uint32_t dmm32_read_byte(struct dmm32_board *board, uint16_t *memory, size_t memory_length, uint8_t *eeprom, size_t eeprom_length, uint8_t offset);
+uint32_t dmm32_read_byte(struct dmm32_board *board, uint16_t *memory, size_t memory_length, uint8_t *eeprom, size_t eeprom_length, uint32_t offset);
 
 /* The guest reads a word at Base + offset: the oldest sample, which leaves, or FFFF where none is held. The word, or refusal 3 at any offset but 0. */
-uint32_t dmm32_read_word(struct dmm32_board *board, uint16_t *memory, size_t memory_length, uint8_t *eeprom, size_t eeprom_length, uint8_t offset);
+uint32_t dmm32_read_word(struct dmm32_board *board, uint16_t *memory, size_t memory_length, uint8_t *eeprom, size_t eeprom_length, uint32_t offset);
 
 /*
  * The conversion in progress ends with a code, that of channel board->converter.channel; board->converter.converting says whether there is one, also
@@ -268,10 +272,10 @@ uint32_t dmm32_read_word(struct dmm32_board *board, uint16_t *memory, size_t mem
 uint32_t dmm32_conversion_end(struct dmm32_board *board, uint16_t *memory, size_t memory_length, uint8_t *eeprom, size_t eeprom_length, int16_t code);
 
 /* The pins DIN3-0 take the levels of bits 3-0. Done, or refusal 5 above 15. */
-uint32_t dmm32_din(struct dmm32_board *board, uint16_t *memory, size_t memory_length, uint8_t *eeprom, size_t eeprom_length, uint8_t lines);
+uint32_t dmm32_din(struct dmm32_board *board, uint16_t *memory, size_t memory_length, uint8_t *eeprom, size_t eeprom_length, uint32_t lines);
 
-/* The Latch pin takes a level. Done. */
-uint32_t dmm32_latch(struct dmm32_board *board, uint16_t *memory, size_t memory_length, uint8_t *eeprom, size_t eeprom_length, bool high);
+/* The Latch pin takes a level: 0 is low, any other number high. Done. */
+uint32_t dmm32_latch(struct dmm32_board *board, uint16_t *memory, size_t memory_length, uint8_t *eeprom, size_t eeprom_length, uint32_t level);
 
 /* The pins of port A, B or C take the levels of a byte. Done. One function for each port: no port number can be wrong. */
 uint32_t dmm32_port_a_pins(struct dmm32_board *board, uint16_t *memory, size_t memory_length, uint8_t *eeprom, size_t eeprom_length, uint8_t pins);
@@ -297,7 +301,7 @@ struct dmm32_settings {
     uint8_t high;
     uint8_t jumpers;                         /* COWRIESTEP_JUMPERS_A to _D; another number has no channel at all: refusal 12 */
     uint8_t range;                           /* the range code for Base + 11; refusal 13 */
-    uint8_t clock;                           /* 0: external clock; any other number: internal clock */
+    uint16_t clock;                          /* 0: external clock; any other number: internal clock */
     uint16_t limit;                          /* how often a start may poll STS, 1 to 1,000; refusal 14 */
 };
 
@@ -317,7 +321,7 @@ struct dmm32_collector {
 /* A start: the record, and 0; or a record of zeros, which is unfit, and the refusal 14, 11, 12 or 13, in this order. */
 struct dmm32_start {
     struct dmm32_collector collector;
-    uint8_t refusal;
+    uint16_t refusal;
 };
 
 struct dmm32_start dmm32_collector_start(struct dmm32_settings settings);
@@ -347,7 +351,7 @@ struct dmm32_bus_answer {
 
 /* A sample that is handed over: its channel and its signed code. */
 struct dmm32_sample {
-    uint8_t channel;
+    uint16_t channel;
     int16_t code;
 };
 
@@ -372,7 +376,7 @@ struct dmm32_taken dmm32_collector_take(struct dmm32_collector collector, struct
  * Of samples that start on channel low, how many from the front are whole scans of low to high: the most that are. 0 where low is above high or high
  * above 31.
  */
-size_t dmm32_whole_scans(const int16_t *samples, size_t length, uint8_t low, uint8_t high);
+size_t dmm32_whole_scans(const int16_t *samples, size_t length, uint32_t low, uint32_t high);
 
 /*
  * ---- A/D codes as volts (manual, chapter 9)

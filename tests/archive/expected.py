@@ -19,7 +19,7 @@ class Collector:
 
     def __init__(self, low, high, _jumpers, range_code, clock, limit):
         self.low, self.high, self.limit = low, high, limit
-        self.writes = {0: (9, 0), 2: (11, range_code), 3: (7, 2), 4: (2, low), 5: (3, high), 6: (9, 2 + clock)}
+        self.writes = {0: (9, 0), 2: (11, range_code), 3: (7, 2), 4: (2, low), 5: (3, high), 6: (9, 3 if clock else 2)}
         self.restart()
 
     def restart(self):

@@ -110,7 +110,7 @@ static void board_refusals(void) {
     board.fifo.held = 513;
     answers("1", dmm32_din(LENT, 16), REFUSED(1));
     expect("guest.c", "working", dmm32_is_working(board, memory, 512), 0);
-    board = dmm32_fresh(4, false);
+    board = dmm32_fresh(4, 0);
     answers("1 with jumpers 4", dmm32_tick(LENT), REFUSED(1));
     board = kept;
     expect("guest.c", "working", dmm32_is_working(board, memory, 512), 1);
@@ -133,8 +133,9 @@ static void board_refusals(void) {
 
 /* ---- the refusals 11 to 17 and 1 of the collector */
 static void refused_start(struct dmm32_settings s, uint8_t number) {
-    struct dmm32_start r = dmm32_collector_start(s);
+    struct dmm32_start r = dmm32_collector_start(s), zeros = { .refusal = number };
     expect("guest.c", "the refusal of a start", r.refusal, number);
+    expect("guest.c", "the bytes of a refused start", memcmp(&r, &zeros, sizeof r) != 0, 0);
     expect("guest.c", "fit", dmm32_collector_is_fit(r.collector), 0);
     expect("guest.c", "the access of no collector", dmm32_collector_access(r.collector).refusal, COWRIESTEP_REFUSED_RECORD);
 }
@@ -145,6 +146,23 @@ static void refused_take(uint8_t phase, uint16_t answer, uint8_t number, uint8_t
     expect("guest.c", "handed", t.handed, COWRIESTEP_HANDED_REFUSED);
     expect("guest.c", "the refusal of an answer", t.refusal, number);
     expect("guest.c", "the phase after it", t.collector.phase, after);
+}
+
+/* Fit: settings that would start, next from low to high, polls at most limit, below it in phase 1 and 0 in phase 0, left 1 to 512 in phase 9, a phase to 10. */
+static void fit(void) {
+    const struct dmm32_settings s = { 8, 15, COWRIESTEP_JUMPERS_C, 0, 0, 3 };
+    const struct { struct dmm32_collector c; int fit; } records[] = {
+        { { s, 0, 8, 0, 0 }, 1 }, { { s, 0, 15, 0, 0 }, 1 }, { { s, 0, 7, 0, 0 }, 0 }, { { s, 0, 16, 0, 0 }, 0 }, { { s, 0, 8, 1, 0 }, 0 },
+        { { s, 1, 8, 0, 0 }, 1 }, { { s, 1, 8, 2, 0 }, 1 }, { { s, 1, 8, 3, 0 }, 0 }, { { s, 2, 8, 3, 0 }, 1 }, { { s, 2, 8, 4, 0 }, 0 },
+        { { s, 8, 9, 259, 0 }, 0 }, { { s, 8, 9, 1, 65535 }, 1 }, { { s, 9, 9, 1, 1 }, 1 }, { { s, 9, 9, 1, 512 }, 1 }, { { s, 9, 9, 1, 0 }, 0 },
+        { { s, 9, 9, 1, 513 }, 0 }, { { s, 10, 8, 3, 0 }, 1 }, { { s, 10, 7, 3, 0 }, 0 }, { { s, 10, 8, 4, 0 }, 0 }, { { s, 11, 8, 3, 0 }, 0 }, { { s, 255, 8, 0, 1 }, 0 },
+        { { { 8, 15, 2, 0, 65535, 1000 }, 7, 8, 1000, 0 }, 1 }, { { { 8, 15, 2, 0, 0, 1001 }, 7, 8, 0, 0 }, 0 }, { { { 8, 15, 2, 0, 0, 0 }, 7, 8, 0, 0 }, 0 },
+        { { { 15, 8, 2, 0, 0, 3 }, 7, 8, 0, 0 }, 0 }, { { { 8, 16, 2, 0, 0, 3 }, 7, 8, 0, 0 }, 0 }, { { { 8, 15, 4, 0, 0, 3 }, 7, 8, 0, 0 }, 0 },
+        { { { 8, 15, 2, 4, 0, 3 }, 7, 8, 0, 0 }, 0 }, { { { 8, 15, 2, 16, 0, 3 }, 7, 8, 0, 0 }, 0 } };
+    for (unsigned i = 0; i < sizeof records / sizeof *records; i++) {
+        expect("guest.c", "whether a record is fit", dmm32_collector_is_fit(records[i].c), records[i].fit);
+        expect("guest.c", "the access of an unfit record", dmm32_collector_access(records[i].c).refusal == 1, !records[i].fit);
+    }
 }
 
 static void collector_refusals(void) {
@@ -172,7 +190,7 @@ static void scans(void) {
 }
 
 int main(void) {
-    board = dmm32_fresh(COWRIESTEP_JUMPERS_A, false);
+    board = dmm32_fresh(COWRIESTEP_JUMPERS_A, 0);
     answers("fresh stores", dmm32_fresh_stores(memory, COWRIESTEP_MEMORY_LENGTH, eeprom, COWRIESTEP_EEPROM_LENGTH), 0);
     program_clock();
     struct dmm32_start s = dmm32_collector_start((struct dmm32_settings){ .low = 3, .high = 5, .jumpers = COWRIESTEP_JUMPERS_A, .range = 8, .clock = 1, .limit = 10 });
@@ -183,6 +201,7 @@ int main(void) {
     overflow();
     board_refusals();
     collector_refusals();
+    fit();
     scans();
     printf("guest.c: %ld answers compared, %ld differ\n", compared, differ);
     return differ != 0;

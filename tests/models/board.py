@@ -4,10 +4,10 @@
     python3 board.py < cases > expected
 
 Each line starts with a fresh board: jumpers A, mid-scale, fresh stores.
-Operations, digits in hex:
+Operations, digits in hex; OO and O may have more digits than shown, w 8 in all:
     wOOHH   byte write, offset OO           rOO   byte read
     xOO     word read                       eHHHH conversion end, the code's 16 bits
-    dHH     DIN pins                        l0 l1 Latch level
+    dOO     DIN pins                        lO    Latch level: 0 low, any other number high
     pNHH    pins of port N (0 A, 1 B, 2 C)  tHHHH so many ticks
     f       calibration transfer end
     bNZ     start again with a fresh board: jumpers N (0 A to 3 D), Z=1 zero scale
@@ -24,9 +24,10 @@ number for a refusal, each after a space.  Of t and n each event has its result.
 import script
 from device import Board, Refused
 from registers import OUT0EN, OUT2EN
+from script import ANY
 from spoils import SPOILS
 
-SHAPES = {"w": (2, 2), "r": (2,), "x": (2,), "e": (4,), "d": (2,), "l": (1,),
+SHAPES = {"w": (ANY, 2), "r": (ANY,), "x": (ANY,), "e": (4,), "d": (ANY,), "l": (ANY,),
           "p": (1, 2), "t": (4,), "f": (), "b": (1, 1), "n": (4,), "y": (),
           "q": (), "m": (2, 2), "h": (4, 4), "z": (2,)}
 

@@ -8,7 +8,7 @@ end with a spoil of the list below; after it only single events follow.
 import timer_random
 from random_lines import print_lines
 
-SPOILS = tuple(range(0x00, 0x24))
+SPOILS = tuple(range(0x00, 0x4A))
 CHANNELS = (0, 1, 2, 3, 3, 4, 5, 30, 31)
 TICKS = (1, 1, 1, 2, 2, 3, 4, 5, 8, 99, 100, 101, 999, 1000, 1001)
 OPERATIONS_9 = (0x00, 0x80, 0xE0, 0xE0, 0xE2, 0xE3, 0xA3, 0x02, 0x03, 0x23, 0x01)
@@ -16,7 +16,11 @@ CONFIGURATIONS = (0x00, 0x00, 0x30, 0x31, 0x34, 0x35, 0x02, 0x06, 0x37, 0x01, 0x
                   0x40, 0x80, 0xC0, 0xC5)
 CONTROLS_8255 = (0x80, 0x81, 0x83, 0x88, 0x8A, 0x8B, 0x90, 0x92, 0x99, 0x9B)
 COMMANDS = (0x80, 0x80, 0xC0, 0xC0, 0x20, 0x08, 0x08, 0x10, 0x30, 0x18, 0x00, 0xA8, 0x88)
-HIDDEN = (0x0E, 0x0F, 0x1B, 0x1D, 0x1E, 0x1F, 0x20)     # spoils that may move an OUT
+HIDDEN = (0x0E, 0x0F, 0x1B, 0x1D, 0x1E, 0x1F, 0x20, 0x32, 0x39, 0x40)   # spoils that may move an OUT
+FAR = ("r10", "w1000", "x01", "x10", "rFF", "r100", "r10F", "x100", "x10000", "w10000",
+       "w1000820", "rFFFFFFFF")
+WIDE_DIN = (0x10, 0x18, 0xF7, 0x100, 0x107, 0x10F, 0x1000F, 0xFFFFFFFF)
+HIGH = (1, 1, 1, 2, 0x10, 0x100, 0x10000)               # Latch levels that are high
 
 
 class Line:
@@ -124,10 +128,10 @@ class Line:
             return "d%02X" % self.din
         if kind == 5:
             self.latch ^= self.often(0.8)
-            return "l%d" % self.latch
+            return "l%X" % (self.dice.choice(HIGH) if self.latch else 0)
         if kind == 6:
             return "p%d%02X" % (self.dice.randrange(3), self.byte())
-        return "d%02X" % self.dice.randrange(16, 256) if self.often(0.1) else "d%02X" % self.din
+        return "d%02X" % (self.dice.choice(WIDE_DIN) if self.often(0.1) else self.din)
 
     def analog_output(self):
         if self.often(0.3):
@@ -138,7 +142,7 @@ class Line:
 
     def read(self):
         if self.often(0.03):
-            return self.dice.choice(("r10", "w1000", "x01", "x10", "rFF"))
+            return self.dice.choice(FAR)
         return "r%02X" % self.dice.randrange(16)
 
     def host(self):
@@ -174,11 +178,11 @@ class Line:
 
     def end(self):
         parts = ["r04 r07 r08 r09 q y"]
-        if self.often(0.05):
+        if self.often(0.1):
             spoil = self.dice.choice(SPOILS)
             parts.append("z%02X" % spoil)
             single = ("w0000", "r07", "x00", "e0001", "d07", "l1", "p0FF", "t0001", "f",
-                      "w0820", "w1000", "d10")
+                      "w0820", "w1000", "d10", "r107", "w10820", "d107", "l2")
             parts += self.dice.choices(single, k=5) + ["y"] * (spoil not in HIDDEN)
         elif self.often(0.03):
             parts.append("h01FF0001 r07 x00 w0000 q")

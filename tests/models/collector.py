@@ -22,7 +22,7 @@ from functools import lru_cache, partialmethod
 
 import script
 
-SHAPES = {"l": (2, 2), "j": (2,), "g": (2,), "k": (2,), "m": (4,), "s": (), "i": (), "p": (2,), "c": (2,), "o": (4,), "d": (4,),
+SHAPES = {"l": (2, 2), "j": (2,), "g": (2,), "k": (script.ANY,), "m": (4,), "s": (), "i": (), "p": (2,), "c": (2,), "o": (4,), "d": (4,),
           "q": (), "a": (4,), "n": (4, 4), "h": (), "f": (), "z": (2, 2, 4)}
 
 # The channels of jumpers A to D (chapter 5.4); other numbers have none (D14).

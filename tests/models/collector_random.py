@@ -15,7 +15,7 @@ def settings(dice):
     jumpers = dice.choice((0, 0, 0, 0, 0, 0, 1, 2, 3, dice.randrange(8)))
     code = dice.choice((0, 1, 2, 3, 8, 15, 10, dice.randrange(20)))
     limit = dice.choice((1, 2, 3, 4, 1000, dice.randrange(1, 1100)))
-    return "l%02X%02X j%02X g%02X k%02X m%04X" % (low, high, jumpers, code, dice.randrange(3), limit)
+    return "l%02X%02X j%02X g%02X k%02X m%04X" % (low, high, jumpers, code, dice.choice((0, 0, 1, 2, 0x100, 0xFF00)), limit)
 
 
 def answer(dice):

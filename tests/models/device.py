@@ -35,7 +35,8 @@ class Board:
         self.divider_100 = 0            # ticks since the last 100 kHz clock
         self.divider_1000 = 0           # ticks since the last 10 kHz clock
         self.din = 15
-        self.latch = 0
+        self.latch = False
+        self.damaged = set()            # flags of the record that are neither 0 nor 1
         self.reset_registers()
 
     def reset_registers(self):
@@ -66,7 +67,7 @@ class Board:
         """Is the record, with its sample memory, a working board's?"""
         parts = (self.samples, self.converter, self.outputs, self.ports,
                  self.calibration, self.timer)
-        return (all(part.fit() for part in parts) and self.page < 4
+        return (all(part.fit() for part in parts) and not self.damaged and self.page < 4
                 and self.jumpers < 4 and self.din < 16 and self.range < 16
                 and self.divider_100 < 100 and self.divider_1000 < 1000)
 
@@ -157,9 +158,11 @@ class Board:
             not self.configuration & GT12EN or bool(self.din & DIN2))
 
     def latch_level(self, level):
-        if level and not self.latch:
+        """0 is low, any other number high."""
+        high = level != 0
+        if high and not self.latch:
             self.request(DINTE)
-        self.latch = level
+        self.latch = high
 
     def port_pins(self, port, levels):
         self.ports.pins[port] = levels

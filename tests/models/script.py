@@ -1,11 +1,27 @@
 """The line shape that the scripts of the timer and of the board share.
 
 A line is a name (any bytes but ':'), ':' and operations.  An operation is a
-letter and a fixed number of hex digits; spaces between operations are skipped.
+letter and hex digits, capitals; spaces between operations are skipped.  Each of
+its numbers has a fixed number of digits, but that the first may be of any width.
 The answer to a line is the name and ':' as they are, then the result of each
 operation, then LF.
 """
+import re
 import sys
+
+ANY = 0         # the width of a first number that takes the digits which the others leave
+OPERATION = re.compile("([a-z])([0-9A-F]*) *")
+
+
+def numbers_of(digits, widths):
+    """The numbers that an operation's digits are."""
+    left = len(digits) - sum(widths)
+    if left and (not widths or widths[0] != ANY):
+        raise ValueError("digits " + digits)
+    for width in widths:
+        width = width or left
+        yield int(digits[:width], 16)
+        digits = digits[width:]
 
 
 def operations(text, shapes):
@@ -14,16 +30,12 @@ def operations(text, shapes):
     `shapes` gives for each letter how many digits each of its numbers has.
     """
     place = 0
+    text = text.lstrip(" ")
     while place < len(text):
-        letter = text[place]
-        place += 1
-        if letter == " ":
-            continue
-        numbers = []
-        for width in shapes[letter]:
-            numbers.append(int(text[place:place + width], 16))
-            place += width
-        yield letter, numbers
+        operation = OPERATION.match(text, place)
+        letter, digits = operation.groups()
+        yield letter, list(numbers_of(digits, shapes[letter]))
+        place = operation.end()
 
 
 def answer(line, shapes, make):

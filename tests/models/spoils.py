@@ -2,7 +2,8 @@
 
 The number is the one of operation z.  Every spoil acts on the record or the
 stores as they stand and leaves all that it does not name.  Refusal 2 answers
-00 to 04, refusal 1 the others.
+00 to 04, refusal 1 the others.  24 to 49 damage a flag of the record, which a
+working board has as 0 or 1: they take the flags in the record's order.
 
     00  sample memory has 511 places: the last is cut off
     01  sample memory has 513 places: a 0 is added
@@ -40,6 +41,20 @@ stores as they stand and leaves all that it does not name.  Refusal 2 answers
     21  no sample held and OVF set
     22  8255 control is BB: ModeA set
     23  8255 control is 9F: ModeB set
+    24  STS is 2                            25  SCANEN is 2
+    26  CLKEN is 2                          27  FIFOEN is 2
+    28  CLKSEL is 2                         29  ADINTE is 2
+    2A  DINTE is 2                          2B  TINTE is 2
+    2C  ADINT is 2                          2D  DINT is 2
+    2E  TINT is 2                           2F  OVF is 2
+    30  the flag of a loaded output is 2
+    31  counter 0: trigger flip-flop is 2   32  counter 0: OUT is 2
+    33  counter 0: count waiting is 2       34  counter 0: count loaded is 2
+    35  counter 0: count latched is 2       36  counter 0: half read is 2
+    37  counter 0: half written is 2
+    38  to 3E are those of counter 1        3F  to 45 those of counter 2
+    46  key is 2                            47  CMUXEN is 2
+    48  Latch level is 2                    49  zero-scale jumper is 2
 """
 from counter import LOW_BYTE, Counter
 
@@ -72,6 +87,16 @@ def counter_in_mode_1(board):
 
 def output(board, channel):
     board.outputs.codes[channel] = 4096
+
+
+def flags():
+    """The names of the record's flags, in its order."""
+    yield from ("STS", "SCANEN", "CLKEN", "FIFOEN", "CLKSEL", "ADINTE", "DINTE", "TINTE",
+                "ADINT", "DINT", "TINT", "OVF", "output loaded")
+    for number in range(3):
+        for flag in ("trigger", "OUT", "waiting", "loaded", "latched", "half read", "half written"):
+            yield "counter %d %s" % (number, flag)
+    yield from ("key", "CMUXEN", "Latch", "zero scale")
 
 
 SPOILS = {
@@ -112,3 +137,5 @@ SPOILS = {
     0x22: lambda board: setattr(board.ports, "control", 0xBB),
     0x23: lambda board: setattr(board.ports, "control", 0x9F),
 }
+for place, name in enumerate(flags()):
+    SPOILS[0x24 + place] = lambda board, flag=name: board.damaged.add(flag)

@@ -3,6 +3,7 @@
 use Prim.Native.Nat.{ℕ}
 use mathlib.Core.Bool.{Bool, true, false, not, _&&_, _||_}
 use mathlib.Core.List.{List, [], _∷_, _++_}
+use Rattle.base.specs.Flags.{on}
 use Rattle.requests.specs.declared.Flags.{Flags}
 use Rattle.machine.specs.declared.Board.{Board}
 use Rattle.events.specs.declared.Answer.{Answer}
@@ -40,7 +41,7 @@ answerText (Refused n) = refusalAnswer n
 
 -- whether a request flag is set
 abbrev pub asks : Flags → Bool
-asks flags = flags .adint || flags .dint || flags .tint
+asks flags = on (flags .adint) || on (flags .dint) || on (flags .tint)
 
 -- the flags go from none to some
 abbrev pub raised : Board → Board → Bool

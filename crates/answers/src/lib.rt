@@ -58,7 +58,7 @@ fn put_irq(raised: bool, out: &mut [u8], at: usize) -> usize
 pub fn is_asking(flags: Flags) -> bool
     ensures { λ r. ⌜ r ≡ asks flags ⌝ }
 {
-    flags.adint | flags.dint | flags.tint
+    (flags.adint == 1) | (flags.dint == 1) | (flags.tint == 1)
 }
 
 // The whole line for an event: its number, the answer, and whether the flags went from none to some.

@@ -7,6 +7,7 @@ use native.Mathlib.Omega.{arith}
 use borrow.Author.Tests.{le-ltb, eq-eqb, ne-eqb, leb-true, leb-false}
 use lib.Dec.{eqb, leb}
 use lib.ListN.{length}
+use Rattle.base.specs.Flags.{on}
 use Rattle.base.specs.Choice.{if_then_else_}
 use Rattle.base.specs.Laws.{choice-le}
 use Rattle.base.specs.Weights.{weightOf, weight-le}
@@ -37,7 +38,7 @@ use Rattle.archive.specs.RealViews.{Works, holds, shown, Makes, serves}
 
 module _ (h : Held) where
   -- ---- the writes of a start
-  pub stops : Makes h (WriteByte 9 0) Done (clocked false (shown h))
+  pub stops : Makes h (WriteByte 9 0) Done (clocked 0 (shown h))
   unfolding answered happened eventChecks writeChecks placeOf ran acted writtenAt writeEffect begins
   stops = record { answers = refl; leaves = refl; begins-none = refl }
 
@@ -67,7 +68,7 @@ module _ (h : Held) where
         begins-none = refl;
       }
 
-  pub goes : (external : Bool) → Makes h (WriteByte 9 (if external then 2 else 3)) Done (clocked true (shown h))
+  pub goes : (external : Bool) → Makes h (WriteByte 9 (if external then 2 else 3)) Done (clocked 1 (shown h))
   unfolding answered happened eventChecks writeChecks placeOf ran acted writtenAt writeEffect begins
   goes true = record { answers = refl; leaves = refl; begins-none = refl }
   goes false = record { answers = refl; leaves = refl; begins-none = refl }
@@ -104,8 +105,9 @@ polls l w =
       byte = adBits (l .board);
       serves = serves l _ _ _ w (poll (holds l));
       narrow =
-          le-ltb 255 (adBits (l .board)) (omega (arith, weight-le (l .board .converter .converting) 128, inputs-fit (l .board)));
-      sts = sts-shown (l .board .converter .converting) (l .board .converter .selected % 32) (singleEnded (l .board)) (omega arith) (inputs-fit (l .board));
+          le-ltb 255 (adBits (l .board)) (omega (arith, weight-le (on (l .board .converter .converting)) 128, inputs-fit (l .board)));
+      sts =
+          sts-shown (on (l .board .converter .converting)) (l .board .converter .selected % 32) (singleEnded (l .board)) (omega arith) (inputs-fit (l .board));
     }
 
 -- ---- the look: EF, HF, FF and OVF
@@ -128,20 +130,20 @@ unfolding flagBits
 looks l w =
     let f = l .board .fifo in
     let e : length (queue f (l .memory)) ≡ f .held = length-queue f (l .memory) (w .board .fifo) in
-    let n : ℕ = weightOf (l .board .requests .fifoen) 8 + weightOf (l .board .converter .scanen) 4 in
+    let n : ℕ = weightOf (on (l .board .requests .fifoen)) 8 + weightOf (on (l .board .converter .scanen)) 4 in
     let m : ℕ = l .board .registers .page % 4 in
-    let r : n + m ≤ 15 = omega (arith, weight-le (l .board .requests .fifoen) 8, weight-le (l .board .converter .scanen) 4) in
+    let r : n + m ≤ 15 = omega (arith, weight-le (on (l .board .requests .fifoen)) 8, weight-le (on (l .board .converter .scanen)) 4) in
     let E = eqb (f .held) 0 in
     let H = leb 256 (f .held) in
     let F = eqb (f .held) 512 in
     record {
       byte = fifoBits (l .board);
       serves = serves l _ _ _ w (look (holds l));
-      narrow = le-ltb 255 (fifoBits (l .board)) (status-narrow E H F (f .ovf) n m r);
-      ef = ef-shown E H F (f .ovf) n m r ∙ empty-flag (f .held) ∙ ap (λ (k : ℕ). leb k 0) (sym e);
-      hf = hf-shown E H F (f .ovf) n m r ∙ ap (λ (k : ℕ). leb 256 k) (sym e);
-      ff = ff-shown E H F (f .ovf) n m r ∙ full-flag (f .held) (w .board .fifo .held) ∙ ap (λ (k : ℕ). leb 512 k) (sym e);
-      ovf = ovf-shown E H F (f .ovf) n m r;
+      narrow = le-ltb 255 (fifoBits (l .board)) (status-narrow E H F (on (f .ovf)) n m r);
+      ef = ef-shown E H F (on (f .ovf)) n m r ∙ empty-flag (f .held) ∙ ap (λ (k : ℕ). leb k 0) (sym e);
+      hf = hf-shown E H F (on (f .ovf)) n m r ∙ ap (λ (k : ℕ). leb 256 k) (sym e);
+      ff = ff-shown E H F (on (f .ovf)) n m r ∙ full-flag (f .held) (w .board .fifo .held) ∙ ap (λ (k : ℕ). leb 512 k) (sym e);
+      ovf = ovf-shown E H F (on (f .ovf)) n m r;
     }
 
 -- ---- the word read

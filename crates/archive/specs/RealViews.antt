@@ -6,6 +6,7 @@ use mathlib.Core.Option.{none}
 use mathlib.Core.Path.{_≡_, refl, sym, ap, subst, _∙_}
 use lib.Dec.{eqb}
 use lib.ListN.{length}
+use Rattle.base.specs.Flags.{on}
 use Rattle.base.specs.Choice.{if_then_else_}
 use Rattle.board_refusal.specs.Working.{WorkingBoard}
 use Rattle.board.specs.Held.{Held, eventNumber, answered, happened, heldIn, number-working, step-held}
@@ -34,7 +35,7 @@ abbrev pub holds : Lent → Held
 holds l = heldIn (l .board) (l .memory) (l .eeprom)
 
 abbrev pub shown : Held → View
-shown h = record { converter = h .board .converter; held = h .samples; ovf = h .board .fifo .ovf }
+shown h = record { converter = h .board .converter; held = h .samples; ovf = on (h .board .fifo .ovf) }
 
 -- no check of the event refuses it
 abbrev pub passes : Held → Event → Bool

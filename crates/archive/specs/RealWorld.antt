@@ -9,6 +9,7 @@ use lib.Dec.{eqb, ltb}
 use lib.ListN.{length}
 use mir.Syntax.{w16}
 use mir.Val.{SFits}
+use Rattle.base.specs.Flags.{on}
 use Rattle.base.specs.Choice.{if_then_else_}
 use Rattle.fifo.specs.Samples.{oldestOf, pushed}
 use Rattle.fifo.specs.Queue.{pushedTo}
@@ -23,7 +24,7 @@ use Rattle.machine_pins.specs.Pins.{fellFrom, dinMoved, triggersStopped, latchS
 use Rattle.machine.specs.declared.Board.{Board}
 use Rattle.ports.specs.declared.Port.{Port}
 use Rattle.board_refusal.specs.Refusals.{eventChecks}
-use Rattle.board_act.specs.Act.{acted}
+use Rattle.board_act.specs.Act.{dinLevels, acted}
 use Rattle.board.specs.Step.{ran}
 use Rattle.board.specs.Held.{Held, ranHeld, happened}
 use Rattle.board.specs.Begins.{begins, tickBegins}
@@ -48,7 +49,7 @@ converted v c = record { converter = c; held = v .held; ovf = v .ovf }
 -- ---- edges and ticks
 -- an event that ends nothing, begins a conversion where the test says so, and else leaves the view
 edge : (h x : Held) (taken test : Bool)
-    → (test ≡ true → (h .board .converter .clken ≡ true) × (h .board .converter .converting ≡ false) × (shown x ≡ starting (shown h)))
+    → (test ≡ true → (on (h .board .converter .clken) ≡ true) × (on (h .board .converter .converting) ≡ false) × (shown x ≡ starting (shown h)))
     → (test ≡ false → shown x ≡ shown h)
     → Happens (taken && test) (if taken then none else none) (shown h) (shown (if taken then x else h))
 edge h x true true p q = let k = p refl in trigger refl refl (k .0) (k .1) (k .2)
@@ -75,14 +76,14 @@ module _ (h : Held) where
   din-happens d =
       let b = h .board in
       let c = h .board .converter in
-      let falls = fellFrom (b .pins .din) (d .lines) 8 in
-      let stopped = triggersStopped (dinMoved b (d .lines)) in
-      let clksel = b .requests .clksel in
+      let falls = fellFrom (b .pins .din) (dinLevels d) 8 in
+      let stopped = triggersStopped (dinMoved b (dinLevels d)) in
+      let clksel = on (b .requests .clksel) in
       edge h (left h (DinPins d)) (passes h (DinPins d)) (begins b (DinPins d))
       (λ e.
-      let i = starts-idle (c .clken) (clksel && false || not clksel && falls && not stopped) (c .converting) e in
+      let i = starts-idle (on (c .clken)) (clksel && false || not clksel && falls && not stopped) (on (c .converting)) e in
       (i .0, i .1, ap (converted (shown h)) (begun b (oldestOf (h .samples)) (h .eeprom) (DinPins d) e)))
-      (λ e. ap (converted (shown h)) (din-triggered b (d .lines) ∙ trigger-lost c (clockTrigger c clksel false falls stopped) e))
+      (λ e. ap (converted (shown h)) (din-triggered b (dinLevels d) ∙ trigger-lost c (clockTrigger c clksel false falls stopped) e))
 
   tick-happens : HeldHappens h Tick
   unfolding happened eventChecks ran acted begins
@@ -94,16 +95,16 @@ module _ (h : Held) where
       (i .0, i .1, ap (converted (shown h)) (begun b (oldestOf (h .samples)) (h .eeprom) Tick e)))
       (λ e. ap (converted (shown h)) (tick-lost b e))
     where
-      tick-idle : (b : Board) → tickBegins b ≡ true → (b .converter .clken ≡ true) × (b .converter .converting ≡ false)
+      tick-idle : (b : Board) → tickBegins b ≡ true → (on (b .converter .clken) ≡ true) × (on (b .converter .converting) ≡ false)
       tick-idle b e =
           let c = counter0Ticked (dividersTicked b) in
-          let i = starts-idle (c .converter .clken) _ (c .converter .converting) e in
-          (ap (λ (x : Converter). x .clken) (sym (counter0-same b)) ∙ i .0, ap (λ (x : Converter). x .converting) (sym (counter0-same b)) ∙ i .1)
+          let i = starts-idle (on (c .converter .clken)) _ (on (c .converter .converting)) e in
+          (ap (λ (x : Converter). on (x .clken)) (sym (counter0-same b)) ∙ i .0, ap (λ (x : Converter). on (x .converting)) (sym (counter0-same b)) ∙ i .1)
 
   -- ---- what touches neither conversions nor samples
-  latch-happens : (high : Bool) → HeldHappens h (LatchLevel high)
+  latch-happens : (level : ℕ) → HeldHappens h (LatchLevel level)
   unfolding happened eventChecks ran acted begins latchSet
-  latch-happens high = still h (left h (LatchLevel high)) (passes h (LatchLevel high)) refl
+  latch-happens level = still h (left h (LatchLevel level)) (passes h (LatchLevel level)) refl
 
   port-happens : (q : Port) (v : ℕ) → HeldHappens h (PortPins q v)
   unfolding happened eventChecks ran acted begins portSet
@@ -115,20 +116,21 @@ module _ (h : Held) where
 
 -- ---- an end
 -- the memory's record after it, told by the samples held
-pushed-ovf : (f : Fifo) (n : ℕ) → n ≡ f .held → pushedTo f .ovf ≡ (if ltb n 512 then f .ovf else true)
+pushed-ovf : (f : Fifo) (n : ℕ) → n ≡ f .held → on (pushedTo f .ovf) ≡ (if ltb n 512 then on (f .ovf) else true)
 unfolding pushedTo
 pushed-ovf f n e = rw e (by (ltb (f .held) 512))
   where
     by : (t : Bool)
-        → (if_then_else_ {A = Fifo} t (record { held = f .held + 1; ovf = f .ovf }) (record { held = f .held; ovf = true })) .ovf ≡ (if t then f .ovf else true)
+        → on ((if_then_else_ {A = Fifo} t (record { held = f .held + 1; ovf = f .ovf }) (record { held = f .held; ovf = 1 })) .ovf)
+        ≡ (if t then on (f .ovf) else true)
     by true = refl
     by false = refl
 
 end-happens : (h : Held) (code : ℤ) → SFits w16 code → length (h .samples) ≡ h .board .fifo .held → HeldHappens h (ConversionEnd code)
 unfolding happened eventChecks ran acted begins
-end-happens h code fits e = by (h .board .converter .converting) refl
+end-happens h code fits e = by (on (h .board .converter .converting)) refl
   where
-    by : (t : Bool) → h .board .converter .converting ≡ t
+    by : (t : Bool) → on (h .board .converter .converting) ≡ t
         → Happens (eqb (if not t then 4 else 0) 0 && begins (h .board) (ConversionEnd code)) (if eqb (if not t then 4 else 0) 0 then some code else none)
         (shown h) (shown (if eqb (if not t then 4 else 0) 0 then left h (ConversionEnd code) else h))
     by true k =
@@ -141,7 +143,7 @@ end-happens h code fits e = by (h .board .converter .converting) refl
 held-happens : (h : Held) (w : World) → length (h .samples) ≡ h .board .fifo .held → HeldHappens h (eventIn w)
 held-happens h (conversion-end code fits) e = end-happens h code fits e
 held-happens h (din-pins d) e = din-happens h d
-held-happens h (latch-level high) e = latch-happens h high
+held-happens h (latch-level level) e = latch-happens h level
 held-happens h (port-pins q v) e = port-happens h q v
 held-happens h tick e = tick-happens h
 held-happens h transfer-end e = transfer-happens h

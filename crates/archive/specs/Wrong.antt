@@ -37,7 +37,7 @@ hasty = record { access = accessOf; reply = λ c a. replied c (if eqb (c .phase)
 
 -- on a board that converts channel 1 as the collector begins
 abbrev pub converting : Converter
-converting = record { low = 0; high = 2; selected = 2; channel = 1; converting = true; scanen = false; clken = true }
+converting = record { low = 0; high = 2; selected = 2; channel = 1; converting = 1; scanen = 0; clken = 1 }
 
 converting-works : WorkingConverter converting
 converting-works = omega arith

@@ -35,7 +35,7 @@ fn happen(event: Event) -> Deed {
     Deed::Happen(event, 0)
 }
 
-fn din(lines: u8) -> Deed {
+fn din(lines: u32) -> Deed {
     happen(Event::DinPins(Din { lines }))
 }
 
@@ -73,7 +73,7 @@ fn interval(line: Line, round: u32, place: u32) -> Deed {
 }
 
 fn access(line: Line) -> Deed {
-    let offset = lines::byte_of(line, 1);
+    let offset = lines::number(line, 1);
     let letter = line.letter;
     match letter {
         b'W' => happen(Event::WriteByte {
@@ -86,12 +86,12 @@ fn access(line: Line) -> Deed {
 }
 
 fn pins(line: Line) -> Deed {
-    let first = lines::byte_of(line, 1);
+    let first = lines::number(line, 1);
     let letter = line.letter;
     match letter {
         b'D' => din(first),
-        b'L' => happen(Event::LatchLevel { high: first == 1 }),
-        _ => happen(Event::PortPins(panel::port_of(first as u32), lines::byte_of(line, 2))),
+        b'L' => happen(Event::LatchLevel { level: first }),
+        _ => happen(Event::PortPins(panel::port_of(first), lines::byte_of(line, 2))),
     }
 }
 
@@ -101,7 +101,7 @@ fn settings(line: Line) -> Settings {
         high: lines::byte_of(line, 2),
         jumpers: lines::byte_of(line, 3),
         range: lines::byte_of(line, 4),
-        clock: lines::byte_of(line, 5),
+        clock: lines::word_of(line, 5),
         limit: lines::word_of(line, 6),
     }
 }

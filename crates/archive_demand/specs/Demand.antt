@@ -10,6 +10,7 @@ use mathlib.Core.Path.{_≡_}
 use lib.IntN.{ℤ}
 use lib.Dec.{leb}
 use lib.ListN.{length, take}
+use Rattle.base.specs.Flags.{on}
 use Rattle.base.specs.Choice.{if_then_else_}
 use Rattle.converter.specs.Codes.{codeOf}
 use Rattle.collector_phases.specs.declared.Access.{Access}
@@ -83,8 +84,8 @@ module _ (M : Machine) (H : Host) (s : System M) where
     pub begins : asked begin ≡ WriteByte 9 0
     -- After 9←0 comes a poll; a poll that finds a conversion in progress is followed by a poll, or, where it was the last, by no access (15).
     pub polls : (r : Run) → asked r ≡ WriteByte 9 0 → H .access (turned r .collector) ≡ ReadByte 8
-    pub waits : (r : Run) → asked r ≡ ReadByte 8 → M .view (at r .board) .converter .converting ≡ true
+    pub waits : (r : Run) → asked r ≡ ReadByte 8 → on (M .view (at r .board) .converter .converting) ≡ true
         → Either (H .access (turned r .collector) ≡ ReadByte 8) (H .access (turned r .collector) ≡ NoAccess 15)
     -- A poll that finds no conversion in progress leads to a look in five turns.
-    pub ready : (r q : Run) → asked r ≡ ReadByte 8 → M .view (at r .board) .converter .converting ≡ false → turns q ≡ 5
+    pub ready : (r q : Run) → asked r ≡ ReadByte 8 → on (M .view (at r .board) .converter .converting) ≡ false → turns q ≡ 5
         → H .access (after M H (turned r) q .collector) ≡ look

@@ -9,6 +9,7 @@ use lib.IntN.{ℤ}
 use lib.Dec.{ltb}
 use lib.ListN.{length, length-append}
 use borrow.Author.Tests.{ltb-true, ltb-false, lt-ltb, leb-true}
+use Rattle.base.specs.Flags.{on}
 use Rattle.base.specs.Choice.{if_then_else_}
 use Rattle.fifo.specs.Samples.{pushed}
 use Rattle.converter.specs.Channels.{idle}
@@ -23,7 +24,7 @@ use Rattle.archive_demand.specs.Chain.{follows, join, snoc, follows-from
 use Rattle.archive_demand.specs.Phases.{wordsOf, words-append, Sixteen, Tail, Queue, Loss, no-loss, was-full, Looking, Taking, Draining}
 
 -- ---- the queue
-pub queue-begin : (t : Settings) (next : ℕ) (v : View) (l : Log) (Q L : List Sample) → FitSettings t → v .converter .converting ≡ false
+pub queue-begin : (t : Settings) (next : ℕ) (v : View) (l : Log) (Q L : List Sample) → FitSettings t → on (v .converter .converting) ≡ false
     → Queue t next v l Q L → Queue t next (starting v) (noteWorld none true (v .converter .selected) l) Q L
 queue-begin t next v l Q L f e q =
     record {
@@ -55,7 +56,7 @@ settled c v = record { converter = idle (v .converter); held = pushed (v .held) 
 
 -- an end: one more sample, behind all the others
 pub queue-end : (t : Settings) (next : ℕ) (v : View) (l : Log) (Q L : List Sample) (code : ℤ) (ch : ℕ) → codeOf (sampleOf code) ≡ code
-    → v .converter .converting ≡ true → (q : Queue t next v l Q L)
+    → on (v .converter .converting) ≡ true → (q : Queue t next v l Q L)
     → Queue t next (settled (sampleOf code) v) (noteWorld (some code) false ch l) Q (L ++ (sample (q .k) code ∷ []))
 queue-end t next v l Q L code ch s e q =
     record {
@@ -96,7 +97,7 @@ queue-merge t next v l Q L q =
 
 -- ---- ends in each phase of a run
 module _ (t : Settings) (next : ℕ) (v : View) (l : Log) (code : ℤ) (ch : ℕ) (s : codeOf (sampleOf code) ≡ code)
-    (e : v .converter .converting ≡ true) where
+    (e : on (v .converter .converting) ≡ true) where
   abbrev v₁ : View
   v₁ = settled (sampleOf code) v
 

@@ -8,6 +8,7 @@ use native.Mathlib.Omega.{arith}
 use borrow.Author.Tests.{leb-false}
 use lib.Dec.{eqb}
 use lib.ListN.{length}
+use Rattle.base.specs.Flags.{on}
 use Rattle.base.specs.Laws.{never}
 use Rattle.events.specs.declared.Event.the-variants as event
 use Rattle.converter.specs.Codes.{sampleOf}
@@ -60,11 +61,11 @@ module _ (M : Machine) (Working : M .Board → Type 0) (laws : Laws M Working) w
     After x a r v′ = FactOf (r .collector) v′ (noteTurn x a false ch (samplesOf (r .handed)) (gapMarked (r .handed)) l)
 
     -- ---- the start
-    stop-after : (r : Taken) → Step c 0 Stop r → Now Stop → After (WriteByte 9 0) 0 r (clocked false v)
+    stop-after : (r : Taken) → Step c 0 Stop r → Now Stop → After (WriteByte 9 0) 0 r (clocked 0 v)
     unfolding phaseOf
     stop-after r stopped k = rw (still (WriteByte 9 0) 0 ch l refl) (idle-on l (l .waiting) (k .0), k .1, refl)
 
-    poll-after : (a : ℕ) (r : Taken) → wide a ≡ false → STS a ≡ v .converter .converting → Step c a Poll r → Now Poll
+    poll-after : (a : ℕ) (r : Taken) → wide a ≡ false → STS a ≡ on (v .converter .converting) → Step c a Poll r → Now Poll
         → After (ReadByte 8) a r v
     unfolding phaseOf
     poll-after a r q s (poll-wide e) k = never (sym q ∙ e)
@@ -95,7 +96,7 @@ module _ (M : Machine) (Working : M .Board → Type 0) (laws : Laws M Working) w
         rw (still (WriteByte 3 (t .high)) 0 ch l refl)
         (record { idle = idle-on l (l .waiting) (k .0 .idle); aim = k .0 .aim; off = k .0 .off; still = k .0 .still }, k .1, k .2, k .3, refl, k .3)
 
-    go-after : (r : Taken) → Step c 0 Go r → Now Go → After (WriteByte 9 (clockByte t)) 0 r (clocked true v)
+    go-after : (r : Taken) → Step c 0 Go r → Now Go → After (WriteByte 9 (clockByte t)) 0 r (clocked 1 v)
     unfolding phaseOf
     go-after r went k =
         rw (is-go (eqb (t .clock) 0), append-nil (l .sinceGap)) (
@@ -252,7 +253,7 @@ module _ (M : Machine) (Working : M .Board → Type 0) (laws : Laws M Working) w
     st a p e = subst (λ (q : Phase). Step c a q (replied c a)) e (step c a fc)
 
     pub turn-kept : (p : Phase) → phaseOf (c .phase) ≡ p → Now p → Kept (accessIn p t)
-    turn-kept Stop e k = write-kept 9 0 (clocked false v) (laws .stops b wk) (stop-after (replied c 0) (st 0 Stop e) k)
+    turn-kept Stop e k = write-kept 9 0 (clocked 0 v) (laws .stops b wk) (stop-after (replied c 0) (st 0 Stop e) k)
     turn-kept Poll e k =
         let s = laws .polls b wk in
         read-kept 8 (s .byte) (s .serves) (poll-after (s .byte) (replied c (s .byte)) (s .narrow) (s .sts) (st (s .byte) Poll e) k)
@@ -263,7 +264,7 @@ module _ (M : Machine) (Working : M .Board → Type 0) (laws : Laws M Working) w
         (low-after (replied c 0) (st 0 Low e) k)
     turn-kept High e k =
         write-kept 3 (t .high) (view.raised (t .high) v) (laws .highs b (t .high) (fc .settings .top) wk) (high-after (replied c 0) (st 0 High e) k)
-    turn-kept Go e k = write-kept 9 (clockByte t) (clocked true v) (laws .goes b t wk) (go-after (replied c 0) (st 0 Go e) k)
+    turn-kept Go e k = write-kept 9 (clockByte t) (clocked 1 v) (laws .goes b t wk) (go-after (replied c 0) (st 0 Go e) k)
     turn-kept Look e k =
         let a = status M Working laws b wk in
         read-kept 7 a (laws .looks b wk .serves) (look-after (replied c a) e (st a Look e) k)

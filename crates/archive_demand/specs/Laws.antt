@@ -7,6 +7,7 @@ use mathlib.Core.Path.{_≡_}
 use lib.IntN.{ℤ}
 use lib.Dec.{ltb, leb}
 use lib.ListN.{length}
+use Rattle.base.specs.Flags.{on}
 use Rattle.base.specs.Choice.{if_then_else_}
 use Rattle.fifo.specs.Samples.{pushed}
 use Rattle.converter.specs.Channels.{started, endStarts, ended}
@@ -37,13 +38,13 @@ ending sample v =
     }
 
 -- CLKEN is written
-abbrev pub clocked : Bool → View → View
+abbrev pub clocked : ℕ → View → View
 clocked clken v =
     record { converter = withBits (v .converter) (v .converter .scanen) clken; held = v .held; ovf = v .ovf }
 
 -- 7←02: SCANEN off, the memory emptied, OVF cleared
 abbrev pub cleared : View → View
-cleared v = record { converter = withBits (v .converter) false (v .converter .clken); held = []; ovf = false }
+cleared v = record { converter = withBits (v .converter) 0 (v .converter .clken); held = []; ovf = false }
 
 -- the low and the high channel are written: either makes low the selected channel
 abbrev pub lowered : ℕ → View → View
@@ -59,8 +60,8 @@ leaving rest v = record { converter = v .converter; held = rest; ovf = false }
 -- ---- what an event of the world may do, where `begins` and `e` tell whether it begins a conversion and the code of the one it ends
 pub data Happens (begins : Bool) (e : Option ℤ) (v v′ : View) : Type 0 where
   quiet : begins ≡ false → e ≡ none → v′ ≡ v → Happens begins e v v′
-  trigger : begins ≡ true → e ≡ none → v .converter .clken ≡ true → v .converter .converting ≡ false → v′ ≡ starting v → Happens begins e v v′
-  end : (code : ℤ) → codeOf (sampleOf code) ≡ code → begins ≡ endStarts (v .converter) → e ≡ some code → v .converter .converting ≡ true
+  trigger : begins ≡ true → e ≡ none → on (v .converter .clken) ≡ true → on (v .converter .converting) ≡ false → v′ ≡ starting v → Happens begins e v v′
+  end : (code : ℤ) → codeOf (sampleOf code) ≡ code → begins ≡ endStarts (v .converter) → e ≡ some code → on (v .converter .converting) ≡ true
       → v′ ≡ ending (sampleOf code) v → Happens begins e v v′
 
 -- ---- what a bus access brings and leaves; none of the collector's begins a conversion
@@ -74,7 +75,7 @@ pub record Polls (M : Machine) (b : M .Board) : Type 0 where
   pub byte : ℕ
   pub serves : Serves M b (ReadByte 8) (Byte byte) (M .view b)
   pub narrow : wide byte ≡ false
-  pub sts : STS byte ≡ M .view b .converter .converting
+  pub sts : STS byte ≡ on (M .view b .converter .converting)
 
 -- a look: EF, HF, FF and OVF
 pub record Looks (M : Machine) (b : M .Board) : Type 0 where
@@ -103,13 +104,13 @@ pub record Laws (M : Machine) (Working : M .Board → Type 0) : Type 0 where
   pub happens : (b : M .Board) (w : World) → Working b
       → Happens (M .begins b (eventIn w)) (M .ends b (eventIn w)) (M .view b) (M .view (M .stepped b (eventIn w)))
   -- the start's accesses: 9←0, read 8, 11←range code, 7←02, 2←low, 3←high, 9←02 or 03
-  pub stops : (b : M .Board) → Working b → Serves M b (WriteByte 9 0) Done (clocked false (M .view b))
+  pub stops : (b : M .Board) → Working b → Serves M b (WriteByte 9 0) Done (clocked 0 (M .view b))
   pub polls : (b : M .Board) → Working b → Polls M b
   pub ranges : (b : M .Board) (n : ℕ) → Working b → Serves M b (WriteByte 11 n) Done (M .view b)
   pub clears : (b : M .Board) → Working b → Serves M b (WriteByte 7 2) Done (cleared (M .view b))
   pub lows : (b : M .Board) (n : ℕ) → n ≤ 31 → Working b → Serves M b (WriteByte 2 n) Done (lowered n (M .view b))
   pub highs : (b : M .Board) (n : ℕ) → n ≤ 31 → Working b → Serves M b (WriteByte 3 n) Done (raised n (M .view b))
-  pub goes : (b : M .Board) (s : Settings) → Working b → Serves M b (WriteByte 9 (clockByte s)) Done (clocked true (M .view b))
+  pub goes : (b : M .Board) (s : Settings) → Working b → Serves M b (WriteByte 9 (clockByte s)) Done (clocked 1 (M .view b))
   -- the look and the word read
   pub looks : (b : M .Board) → Working b → Looks M b
   pub words : (b : M .Board) → Working b → Fetches M b

@@ -5,6 +5,7 @@ use mathlib.Core.List.{List, [], _∷_, _++_, map, IsPrefix}
 use mathlib.Core.Option.{Option, none, some}
 use mathlib.Core.Path.{_≡_, refl, ap}
 use lib.ListN.{length}
+use Rattle.base.specs.Flags.{on}
 use Rattle.converter.specs.Codes.{sampleOf, codeOf}
 use Rattle.collector_settings.specs.declared.Settings.{Settings}
 use Rattle.collector_phases.specs.declared.Collector.{Collector}
@@ -46,8 +47,8 @@ pub record Idle (l : Log) : Type 0 where
 pub record Quiet (t : Settings) (next : ℕ) (v : View) (l : Log) : Type 0 where
   pub idle : Idle l
   pub aim : next ≡ t .low
-  pub off : v .converter .clken ≡ false
-  pub still : v .converter .converting ≡ false
+  pub off : on (v .converter .clken) ≡ false
+  pub still : on (v .converter .converting) ≡ false
 
 -- a start has ended: the channels handed over since go from low on
 pub record Running (t : Settings) (next : ℕ) (l : Log) : Type 0 where
@@ -66,10 +67,10 @@ pub record Queue (t : Settings) (next : ℕ) (v : View) (l : Log) (Q L : List Sa
   pub split : l .samples ≡ l .handed ++ (Q ++ L)
   pub queue : Chain Sixteen t next Q m
   pub lost : Chain Sixteen t m L k
-  pub tail : Tail t (v .converter .converting) (l .current) (v .converter .selected) k
+  pub tail : Tail t (on (v .converter .converting)) (l .current) (v .converter .selected) k
   pub is-low : v .converter .low ≡ t .low
   pub is-high : v .converter .high ≡ t .high
-  pub no-scan : v .converter .scanen ≡ false
+  pub no-scan : on (v .converter .scanen) ≡ false
   pub from : t .low ≤ v .converter .selected
   pub to : v .converter .selected ≤ t .high
 
@@ -107,13 +108,13 @@ pub record Draining (left : ℕ) (t : Settings) (next : ℕ) (v : View) (l : Log
 
 abbrev pub Fact : Phase → Settings → ℕ → ℕ → View → Log → Type 0
 Fact Stop t next left v l = Idle l × (next ≡ t .low)
-Fact Poll t next left v l = Idle l × (next ≡ t .low) × (v .converter .clken ≡ false)
+Fact Poll t next left v l = Idle l × (next ≡ t .low) × (on (v .converter .clken) ≡ false)
 Fact Range t next left v l = Quiet t next v l
 Fact Clear t next left v l = Quiet t next v l
-Fact Low t next left v l = Quiet t next v l × (v .held ≡ []) × (v .converter .scanen ≡ false)
-Fact High t next left v l = Quiet t next v l × (v .held ≡ []) × (v .converter .scanen ≡ false) × (v .converter .low ≡ t .low)
+Fact Low t next left v l = Quiet t next v l × (v .held ≡ []) × (on (v .converter .scanen) ≡ false)
+Fact High t next left v l = Quiet t next v l × (v .held ≡ []) × (on (v .converter .scanen) ≡ false) × (v .converter .low ≡ t .low)
 Fact Go t next left v l =
-    Quiet t next v l × (v .held ≡ []) × (v .converter .scanen ≡ false) × (v .converter .low ≡ t .low) × (v .converter .high ≡ t .high)
+    Quiet t next v l × (v .held ≡ []) × (on (v .converter .scanen) ≡ false) × (v .converter .low ≡ t .low) × (v .converter .high ≡ t .high)
     × (v .converter .selected ≡ t .low)
 Fact Look t next left v l = Running t next l × (l .within ≡ true → Looking t next v l)
 Fact Take t next left v l = Running t next l × (l .within ≡ true → Taking t next v l)

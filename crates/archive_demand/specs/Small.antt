@@ -8,8 +8,9 @@ use mathlib.Core.Option.{Option, none, some}
 use lib.IntN.{ℤ}
 use lib.Dec.{eqb, leb}
 use lib.ListN.{length}
+use Rattle.base.specs.Flags.{on}
 use Rattle.base.specs.Choice.{if_then_else_}
-use Rattle.base.specs.Fields.{bit}
+use Rattle.base.specs.Fields.{field}
 use Rattle.base.specs.Weights.{weightOf}
 use Rattle.fifo.specs.Samples.{oldestOf}
 use Rattle.converter.specs.Channels.{endStarts}
@@ -28,7 +29,7 @@ use Rattle.archive_demand.specs.Laws.{starting, ending, clocked, lowered
 -- 7: SCANEN is stored, also beside FIFORST, which empties the memory and clears OVF
 abbrev pub scanned : View → ℕ → View
 scanned v x =
-    record { converter = withBits (v .converter) (bit x 4) (v .converter .clken); held = v .held; ovf = v .ovf }
+    record { converter = withBits (v .converter) (field x 4 2) (v .converter .clken); held = v .held; ovf = v .ovf }
 
 abbrev pub emptied : View → View
 emptied v = record { converter = v .converter; held = []; ovf = false }
@@ -42,14 +43,14 @@ written v n x =
     if eqb n 2 then lowered (x % 32) v
     else if eqb n 3 then raised (x % 32) v
     else if eqb n 7 then fifoWritten v x
-    else if eqb n 9 then clocked (bit x 2) v
+    else if eqb n 9 then clocked (field x 2 2) v
     else v
 
 -- 7: EF HF FF OVF, SCANEN; 8: STS, single-ended inputs, ADCH4-0
 abbrev pub fifoByte : View → ℕ
 fifoByte v =
     statusByte (leb (length (v .held)) 0) (leb 256 (length (v .held))) (leb 512 (length (v .held))) (v .ovf)
-    (weightOf (v .converter .scanen) 4) 0
+    (weightOf (on (v .converter .scanen)) 4) 0
 
 abbrev pub adByte : View → ℕ
 adByte v = statusBits (v .converter) + 96
@@ -65,15 +66,15 @@ fetched v (c ∷ rest) = leaving rest v
 -- ---- any event
 -- an edge begins a conversion with CLKEN, unless one runs
 abbrev pub edgeBegins : View → Bool
-edgeBegins v = v .converter .clken && not (v .converter .converting)
+edgeBegins v = on (v .converter .clken) && not (on (v .converter .converting))
 
 abbrev pub smallStep : View → Event → View
 smallStep v (WriteByte n x) = written v n x
 smallStep v (ReadByte n) = v
 smallStep v (ReadWord n) = if eqb n 0 then fetched v (v .held) else v
-smallStep v (ConversionEnd code) = if v .converter .converting then ending (sampleOf code) v else v
+smallStep v (ConversionEnd code) = if on (v .converter .converting) then ending (sampleOf code) v else v
 smallStep v (DinPins d) = if edgeBegins v then starting v else v
-smallStep v (LatchLevel high) = v
+smallStep v (LatchLevel level) = v
 smallStep v (PortPins q x) = v
 smallStep v Tick = v
 smallStep v TransferEnd = v
@@ -84,7 +85,7 @@ smallAnswer v (ReadByte n) = readAnswer v n
 smallAnswer v (ReadWord n) = if eqb n 0 then Word (oldestOf (v .held)) else Done
 smallAnswer v (ConversionEnd code) = Done
 smallAnswer v (DinPins d) = Done
-smallAnswer v (LatchLevel high) = Done
+smallAnswer v (LatchLevel level) = Done
 smallAnswer v (PortPins q x) = Done
 smallAnswer v Tick = Done
 smallAnswer v TransferEnd = Done
@@ -93,9 +94,9 @@ abbrev pub smallBegins : View → Event → Bool
 smallBegins v (WriteByte n x) = false
 smallBegins v (ReadByte n) = false
 smallBegins v (ReadWord n) = false
-smallBegins v (ConversionEnd code) = v .converter .converting && endStarts (v .converter)
+smallBegins v (ConversionEnd code) = on (v .converter .converting) && endStarts (v .converter)
 smallBegins v (DinPins d) = edgeBegins v
-smallBegins v (LatchLevel high) = false
+smallBegins v (LatchLevel level) = false
 smallBegins v (PortPins q x) = false
 smallBegins v Tick = false
 smallBegins v TransferEnd = false
@@ -104,9 +105,9 @@ abbrev pub smallEnds : View → Event → Option ℤ
 smallEnds v (WriteByte n x) = none
 smallEnds v (ReadByte n) = none
 smallEnds v (ReadWord n) = none
-smallEnds v (ConversionEnd code) = if v .converter .converting then some code else none
+smallEnds v (ConversionEnd code) = if on (v .converter .converting) then some code else none
 smallEnds v (DinPins d) = none
-smallEnds v (LatchLevel high) = none
+smallEnds v (LatchLevel level) = none
 smallEnds v (PortPins q x) = none
 smallEnds v Tick = none
 smallEnds v TransferEnd = none

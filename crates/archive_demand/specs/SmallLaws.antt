@@ -9,6 +9,7 @@ use borrow.Author.Tests.{le-ltb, ltb-true, ltb-false}
 use lib.IntN.{ℤ}
 use lib.Dec.{eqb, leb, ltb}
 use lib.ListN.{length, length-append}
+use Rattle.base.specs.Flags.{on}
 use Rattle.base.specs.Choice.{if_then_else_}
 use Rattle.base.specs.Laws.{by-choice, never}
 use Rattle.base.specs.Weights.{weightOf, weight-le}
@@ -62,35 +63,35 @@ small-works : (v : View) (ev : Event) → SmallWorks v → SmallWorks (smallStep
 small-works v (WriteByte n x) k = written-works v n x k
 small-works v (ReadByte n) k = k
 small-works v (ReadWord n) k = by-choice SmallWorks (eqb n 0) (fetched-works v (v .held) (k .room) k) k
-small-works v (ConversionEnd code) k = by-choice SmallWorks (v .converter .converting) (ending-works v (sampleOf code) k) k
+small-works v (ConversionEnd code) k = by-choice SmallWorks (on (v .converter .converting)) (ending-works v (sampleOf code) k) k
 small-works v (DinPins d) k = by-choice SmallWorks (edgeBegins v) (alike v _ refl refl k) k
-small-works v (LatchLevel high) k = k
+small-works v (LatchLevel level) k = k
 small-works v (PortPins q x) k = k
 small-works v Tick k = k
 small-works v TransferEnd k = k
 
 -- ---- the world
-edge-happens : (v : View) (clken converting : Bool) → v .converter .clken ≡ clken → v .converter .converting ≡ converting
+edge-happens : (v : View) (clken converting : Bool) → on (v .converter .clken) ≡ clken → on (v .converter .converting) ≡ converting
     → Happens (clken && not converting) none v (if clken && not converting then starting v else v)
 edge-happens v true true e k = quiet refl refl refl
 edge-happens v true false e k = trigger refl refl e k refl
 edge-happens v false converting e k = quiet refl refl refl
 
-end-happens : (v : View) (code : ℤ) (converting : Bool) → codeOf (sampleOf code) ≡ code → v .converter .converting ≡ converting
+end-happens : (v : View) (code : ℤ) (converting : Bool) → codeOf (sampleOf code) ≡ code → on (v .converter .converting) ≡ converting
     → Happens (converting && endStarts (v .converter)) (if converting then some code else none) v (if converting then ending (sampleOf code) v else v)
 end-happens v code true c e = end code c refl refl e refl
 end-happens v code false c e = quiet refl refl refl
 
 small-happens : (v : View) (w : World) → Happens (smallBegins v (eventIn w)) (smallEnds v (eventIn w)) v (smallStep v (eventIn w))
-small-happens v (conversion-end code fits) = end-happens v code (v .converter .converting) (code-of-sample code fits) refl
-small-happens v (din-pins d) = edge-happens v (v .converter .clken) (v .converter .converting) refl refl
-small-happens v (latch-level high) = quiet refl refl refl
+small-happens v (conversion-end code fits) = end-happens v code (on (v .converter .converting)) (code-of-sample code fits) refl
+small-happens v (din-pins d) = edge-happens v (on (v .converter .clken)) (on (v .converter .converting)) refl refl
+small-happens v (latch-level level) = quiet refl refl refl
 small-happens v (port-pins q x) = quiet refl refl refl
 small-happens v tick = quiet refl refl refl
 small-happens v transfer-end = quiet refl refl refl
 
 -- ---- the bus
-goes : (v : View) (external : Bool) → Serves small v (WriteByte 9 (if external then 2 else 3)) Done (clocked true v)
+goes : (v : View) (external : Bool) → Serves small v (WriteByte 9 (if external then 2 else 3)) Done (clocked 1 v)
 goes v true = record { answers = refl; leaves = refl; begins-none = refl }
 goes v false = record { answers = refl; leaves = refl; begins-none = refl }
 
@@ -99,8 +100,8 @@ polls v =
     record {
       byte = adByte v;
       serves = record { answers = refl; leaves = refl; begins-none = refl };
-      narrow = le-ltb 255 (adByte v) (omega (arith, weight-le (v .converter .converting) 128));
-      sts = sts-shown (v .converter .converting) (v .converter .selected % 32) 96 (omega arith) (omega arith);
+      narrow = le-ltb 255 (adByte v) (omega (arith, weight-le (on (v .converter .converting)) 128));
+      sts = sts-shown (on (v .converter .converting)) (v .converter .selected % 32) 96 (omega arith) (omega arith);
     }
 
 looks : (v : View) → Looks small v
@@ -108,8 +109,8 @@ looks v =
     let E = leb (length (v .held)) 0 in
     let H = leb 256 (length (v .held)) in
     let F = leb 512 (length (v .held)) in
-    let n = weightOf (v .converter .scanen) 4 in
-    let r : n + 0 ≤ 15 = omega (arith, weight-le (v .converter .scanen) 4) in
+    let n = weightOf (on (v .converter .scanen)) 4 in
+    let r : n + 0 ≤ 15 = omega (arith, weight-le (on (v .converter .scanen)) 4) in
     record {
       byte = fifoByte v;
       serves = record { answers = refl; leaves = refl; begins-none = refl };

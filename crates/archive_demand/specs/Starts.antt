@@ -5,6 +5,7 @@ use mathlib.Core.Bool.{Bool, true, false, true≢false}
 use mathlib.Core.List.{List, [], _∷_}
 use mathlib.Core.Path.{_≡_, refl, sym, _∙_, ap, subst}
 use native.Mathlib.Omega.{arith}
+use Rattle.base.specs.Flags.{on}
 use Rattle.events.specs.declared.Answer.the-variants.{Done, Byte}
 use Rattle.events.specs.declared.Event.the-variants as event
 use Rattle.collector_phases.specs.declared.Access.{Access}
@@ -186,13 +187,13 @@ module _ (M : Machine) (Working : M .Board → Type 0) (laws : Laws M Working) w
     busy-on a r w s (poll-again e f g) = first refl
     busy-on a r w s (poll-last e f g) = second refl
 
-    busy-turn : phaseOf (c .phase) ≡ Poll → M .view b .converter .converting ≡ true
+    busy-turn : phaseOf (c .phase) ≡ Poll → on (M .view b .converter .converting) ≡ true
         → Either (phaseOf (next M words x turn .collector .phase) ≡ Poll) (phaseOf (next M words x turn .collector .phase) ≡ Stuck)
     busy-turn e f =
         let k = laws .polls b wk in
         rw (polled Poll e refl) (busy-on (k .byte) _ (k .narrow) (k .sts ∙ f) (st Poll e (k .byte)))
 
-    poll-turn : phaseOf (c .phase) ≡ Poll → M .view b .converter .converting ≡ false → phaseOf (next M words x turn .collector .phase) ≡ Range
+    poll-turn : phaseOf (c .phase) ≡ Poll → on (M .view b .converter .converting) ≡ false → phaseOf (next M words x turn .collector .phase) ≡ Range
     poll-turn e f =
         let k = laws .polls b wk in
         to-phase _ _ Range (polled Poll e refl) (free-on (k .byte) _ (k .narrow) (k .sts ∙ f) (st Poll e (k .byte)))
@@ -207,7 +208,7 @@ module _ (M : Machine) (Working : M .Board → Type 0) (laws : Laws M Working) w
   goes-on t y s (q ▸ world w) h e = goes-on t y s q h e
 
   pub ready-at : (t : Settings) (x : System M) → Sound M Working laws t x → phaseOf (x .collector .phase) ≡ Poll
-      → M .view (x .board) .converter .converting ≡ false → (q : Run) → turns q ≡ 5
+      → on (M .view (x .board) .converter .converting) ≡ false → (q : Run) → turns q ≡ 5
       → accessOf (after M words (next M words x turn) q .collector) ≡ look
   unfolding after
   ready-at t x s p f q n =
@@ -227,7 +228,7 @@ module _ (M : Machine) (Working : M .Board → Type 0) (laws : Laws M Working) w
   polls-at t x s p = by-phase t x s Poll (stop-turn x (s .works) (s .fit) p)
 
   pub waits-at : (t : Settings) (x : System M) → Sound M Working laws t x → phaseOf (x .collector .phase) ≡ Poll
-      → M .view (x .board) .converter .converting ≡ true
+      → on (M .view (x .board) .converter .converting) ≡ true
       → Either (accessOf (next M words x turn .collector) ≡ ReadByte 8) (accessOf (next M words x turn .collector) ≡ NoAccess 15)
   waits-at t x s p f = by (busy-turn x (s .works) (s .fit) p f)
     where

@@ -1,6 +1,5 @@
 -- What happens to a board beside its bus (the specification, "What is delivered": "An event is one of ..."): every event that is no bus access.
 use Prim.Native.Nat.{ℕ}
-use mathlib.Core.Bool.{Bool}
 use lib.IntN.{ℤ}
 use mir.Syntax.{w16}
 use mir.Val.{SFits}
@@ -13,7 +12,7 @@ pub data World : Type 0 where
   -- with a signed code of 16 bits
   conversion-end : (code : ℤ) → SFits w16 code → World
   din-pins : Din → World
-  latch-level : Bool → World
+  latch-level : ℕ → World
   port-pins : Port → ℕ → World
   tick : World
   transfer-end : World
@@ -21,7 +20,7 @@ pub data World : Type 0 where
 abbrev pub eventIn : World → Event
 eventIn (conversion-end code fits) = ConversionEnd code
 eventIn (din-pins d) = DinPins d
-eventIn (latch-level high) = LatchLevel high
+eventIn (latch-level level) = LatchLevel level
 eventIn (port-pins q v) = PortPins q v
 eventIn tick = Tick
 eventIn transfer-end = TransferEnd

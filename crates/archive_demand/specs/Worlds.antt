@@ -5,6 +5,7 @@ use mathlib.Core.List.{List, [], _∷_, _++_, IsPrefix, append-assoc}
 use mathlib.Core.Option.{Option, none, some}
 use mathlib.Core.Path.{_≡_, refl, sym, _∙_, ap}
 use lib.IntN.{ℤ}
+use Rattle.base.specs.Flags.{on}
 use Rattle.base.specs.Choice.{if_then_else_}
 use Rattle.base.specs.Laws.{both}
 use Rattle.converter.specs.Channels.{started, idle, endStarts}
@@ -37,20 +38,20 @@ running-world : (t : Settings) (next : ℕ) (e : Option ℤ) (begins : Bool) (ch
 running-world t next e begins ch l k = record { since = k .since; runs = k .runs }
 
 -- nothing happens to a board that neither converts nor is clocked
-calm : (begins : Bool) (e : Option ℤ) (v v′ : View) → v .converter .clken ≡ false → v .converter .converting ≡ false → Happens begins e v v′
+calm : (begins : Bool) (e : Option ℤ) (v v′ : View) → on (v .converter .clken) ≡ false → on (v .converter .converting) ≡ false → Happens begins e v v′
     → (begins ≡ false) × (e ≡ none) × (v′ ≡ v)
 calm begins e v v′ p q (quiet a b c) = (a, b, c)
 calm begins e v v′ p q (trigger a b c d f) = absurd (true≢false (sym c ∙ p))
 calm begins e v v′ p q (end code k a b c d) = absurd (true≢false (sym c ∙ q))
 
-ended-clken : (b : Bool) (v : View) → (if b then started (v .converter) else idle (v .converter)) .clken ≡ v .converter .clken
+ended-clken : (b : Bool) (v : View) → on ((if b then started (v .converter) else idle (v .converter)) .clken) ≡ on (v .converter .clken)
 ended-clken true v = refl
 ended-clken false v = refl
 
-clken-kept : (begins : Bool) (e : Option ℤ) (v v′ : View) → Happens begins e v v′ → v′ .converter .clken ≡ v .converter .clken
-clken-kept begins e v v′ (quiet a b c) = ap (λ (u : View). u .converter .clken) c
-clken-kept begins e v v′ (trigger a b c d f) = ap (λ (u : View). u .converter .clken) f
-clken-kept begins e v v′ (end code k a b c d) = ap (λ (u : View). u .converter .clken) d ∙ ended-clken (endStarts (v .converter)) v
+clken-kept : (begins : Bool) (e : Option ℤ) (v v′ : View) → Happens begins e v v′ → on (v′ .converter .clken) ≡ on (v .converter .clken)
+clken-kept begins e v v′ (quiet a b c) = ap (λ (u : View). on (u .converter .clken)) c
+clken-kept begins e v v′ (trigger a b c d f) = ap (λ (u : View). on (u .converter .clken)) f
+clken-kept begins e v v′ (end code k a b c d) = ap (λ (u : View). on (u .converter .clken)) d ∙ ended-clken (endStarts (v .converter)) v
 
 -- a quiet event leaves the log, but that `within` is tested again
 pub requieted : Log → Log
@@ -66,10 +67,10 @@ requieted l =
     }
 
 -- ---- in a run an event of the world does nothing here, begins a conversion, or ends one that begins no other
-module _ (P : View → Log → Type 0) (v : View) (l : Log) (no-scan : v .converter .scanen ≡ false)
+module _ (P : View → Log → Type 0) (v : View) (l : Log) (no-scan : on (v .converter .scanen) ≡ false)
     (again : P v (requieted l))
-    (begun : v .converter .converting ≡ false → P (starting v) (noteWorld none true (v .converter .selected) l))
-    (over : (code : ℤ) → codeOf (sampleOf code) ≡ code → v .converter .converting ≡ true
+    (begun : on (v .converter .converting) ≡ false → P (starting v) (noteWorld none true (v .converter .selected) l))
+    (over : (code : ℤ) → codeOf (sampleOf code) ≡ code → on (v .converter .converting) ≡ true
     → P (settled (sampleOf code) v) (noteWorld (some code) false (v .converter .selected) l)) where
   by-event : (begins : Bool) (e : Option ℤ) (v′ : View) → Happens begins e v v′ → P v′ (noteWorld e begins (v .converter .selected) l)
   unfolding requieted
@@ -147,7 +148,7 @@ module _ (t : Settings) (next left : ℕ) (f : FitSettings t) (v : View) (l : Lo
       (λ code s b w. drain-end t next v l code ch s b left k) begins e v′ h
 
   -- a phase of the start after its poll: nothing happens
-  quieted : (P : View → Log → Type 0) → v .converter .clken ≡ false → v .converter .converting ≡ false → P v (noteWorld none false ch l) → P v′ l′
+  quieted : (P : View → Log → Type 0) → on (v .converter .clken) ≡ false → on (v .converter .converting) ≡ false → P v (noteWorld none false ch l) → P v′ l′
   quieted P c b p = let k = calm begins e v v′ c b h in rw (k .0, k .1, k .2) p
 
   quiet-log : Quiet t next v l → Quiet t next v (noteWorld none false ch l)

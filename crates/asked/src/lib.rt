@@ -14,8 +14,13 @@ pub fn ask(command: Command) -> Asked
     ensures { λ r. ⌜ r ≡ askedBy command ⌝ }
 {
     match command {
-        Command::WriteByte { offset, value } => Asked::Happen(Event::WriteByte { offset, value }),
-        Command::ReadByte { offset } => Asked::Happen(Event::ReadByte { offset }),
+        Command::WriteByte { offset, value } => Asked::Happen(Event::WriteByte {
+            offset: offset as u32,
+            value,
+        }),
+        Command::ReadByte { offset } => Asked::Happen(Event::ReadByte {
+            offset: offset as u32,
+        }),
         Command::ReadWord => Asked::Happen(Event::ReadWord { offset: 0 }),
         Command::EndConversion { sample } => Asked::Happen(Event::ConversionEnd {
             code: converter::codes::code(sample),

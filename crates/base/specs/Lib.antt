@@ -5,3 +5,4 @@ pub mod Laws
 pub mod Weights
 pub mod Checks
 pub mod Unrefused
+pub mod Flags

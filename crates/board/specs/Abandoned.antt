@@ -7,6 +7,7 @@ use mathlib.Core.List.{List, [], _∷_, _++_}
 use lib.IntN.{ℤ}
 use borrow.Author.Tests.{eqb-true}
 use lib.Dec.{eqb, ltb}
+use Rattle.base.specs.Flags.{on}
 use Rattle.base.specs.Choice.{if_then_else_}
 use Rattle.fifo.specs.Samples.{pushed}
 use Rattle.fifo.specs.Queue.{queue}
@@ -28,7 +29,7 @@ use Rattle.bus.specs.declared.Place.{Place}
 use Rattle.bus.specs.declared.Place.the-variants.{Start, Digital, LowChannel, HighChannel, DacLeast, DacMost, Depth, FifoControl}
 use Rattle.bus.specs.declared.Place.the-variants.{Miscellaneous, Operation, CounterControl, Analog, Count, ControlWord, PortData, PortControl}
 use Rattle.bus.specs.declared.Place.the-variants.{Reserved, Auxiliary, CalData, CalAddress, CalCommand, CalKey, Outside}
-use Rattle.board_act.specs.Act.{acted}
+use Rattle.board_act.specs.Act.{dinLevels, acted}
 use Rattle.board_refusal.specs.Working.{WorkingBoard}
 use Rattle.board.specs.Step.{ran, ranFrom}
 use Rattle.board.specs.Begins.{timerBegins, writtenBegins, writeBegins, tickBegins, begins, beginsOn, ends, keeps, resets, abandons}
@@ -39,7 +40,7 @@ use Rattle.events.specs.declared.Event.the-variants.{WriteByte, ReadByte, ReadW
 
 -- whether a conversion is in progress after an event that is not refused
 abbrev pub runsAfter : Board → ℕ → List ℕ → Event → Bool
-runsAfter b o e ev = acted b o e ev .board .converter .converting
+runsAfter b o e ev = on (acted b o e ev .board .converter .converting)
 
 -- ---- a reset leaves the converter as a fresh board's: no conversion is in progress
 pub reset-fresh : (b : Board) (o : ℕ) (e : List ℕ) (ev : Event) → resets ev ≡ true → acted b o e ev .board .converter ≡ freshConverter
@@ -52,17 +53,17 @@ reset-fresh b o e (ReadByte n) h = never h
 reset-fresh b o e (ReadWord n) h = never h
 reset-fresh b o e (ConversionEnd code) h = never h
 reset-fresh b o e (DinPins d) h = never h
-reset-fresh b o e (LatchLevel high) h = never h
+reset-fresh b o e (LatchLevel level) h = never h
 reset-fresh b o e (PortPins q v) h = never h
 reset-fresh b o e Tick h = never h
 reset-fresh b o e TransferEnd h = never h
 
 module _ (b : Board) (o : ℕ) (e : List ℕ) (ev : Event) where
-  runs : {c : Converter} → acted b o e ev .board .converter ≡ c → runsAfter b o e ev ≡ c .converting
-  runs h = ap (λ (c : Converter). c .converting) h
+  runs : {c : Converter} → acted b o e ev .board .converter ≡ c → runsAfter b o e ev ≡ on (c .converting)
+  runs h = ap (λ (c : Converter). on (c .converting)) h
 
   progress : (s t u : Bool) → begins b ev ≡ s → ends ev ≡ t → resets ev ≡ u
-      → runsAfter b o e ev ≡ s || not t && not u && b .converter .converting
+      → runsAfter b o e ev ≡ s || not t && not u && on (b .converter .converting)
   progress true t u h k r = runs (begun b o e ev h)
   progress false true u h k r = runs (over b o e ev h k)
   progress false false true h k r = runs (reset-fresh b o e ev r)
@@ -70,7 +71,7 @@ module _ (b : Board) (o : ℕ) (e : List ℕ) (ev : Event) where
 
   -- a conversion is in progress after an event exactly where the event begins one, or one was in progress and the event neither ends one nor
   -- resets
-  pub in-progress : runsAfter b o e ev ≡ begins b ev || not (ends ev) && not (resets ev) && b .converter .converting
+  pub in-progress : runsAfter b o e ev ≡ begins b ev || not (ends ev) && not (resets ev) && on (b .converter .converting)
   in-progress = progress (begins b ev) (ends ev) (resets ev) refl refl refl
 
 -- it begins on the selected channel
@@ -83,12 +84,12 @@ free true true h = never h
 free true false h = refl
 free false running h = never h
 
-written-free : (b : Board) (w : Written) → writtenBegins b w ≡ true → b .converter .converting ≡ false
-written-free b (Accepted t) h = free (out2Trigger b t) (b .converter .converting) h
+written-free : (b : Board) (w : Written) → writtenBegins b w ≡ true → on (b .converter .converting) ≡ false
+written-free b (Accepted t) h = free (out2Trigger b t) (on (b .converter .converting)) h
 written-free b (Refused n) h = never h
 
-write-free : (b : Board) (p : Place) (v : ℕ) → writeBegins b p v ≡ true → b .converter .converting ≡ false
-write-free b Start v h = free (softwareTrigger (b .converter)) (b .converter .converting) h
+write-free : (b : Board) (p : Place) (v : ℕ) → writeBegins b p v ≡ true → on (b .converter .converting) ≡ false
+write-free b Start v h = free (softwareTrigger (b .converter)) (on (b .converter .converting)) h
 write-free b Digital v h = never h
 write-free b LowChannel v h = never h
 write-free b HighChannel v h = never h
@@ -112,18 +113,18 @@ write-free b CalCommand v h = never h
 write-free b CalKey v h = never h
 write-free b Outside v h = never h
 
-pub begins-free : (b : Board) (ev : Event) → ends ev ≡ false → begins b ev ≡ true → b .converter .converting ≡ false
+pub begins-free : (b : Board) (ev : Event) → ends ev ≡ false → begins b ev ≡ true → on (b .converter .converting) ≡ false
 unfolding begins ends
 begins-free b (WriteByte n v) k h = write-free b (placeOf (b .registers .page) n) v h
 begins-free b (ReadByte n) k h = never h
 begins-free b (ReadWord n) k h = never h
 begins-free b (ConversionEnd code) k h = never (sym k)
-begins-free b (DinPins d) k h = free (dinTrigger b (d .lines)) (b .converter .converting) h
-begins-free b (LatchLevel high) k h = never h
+begins-free b (DinPins d) k h = free (dinTrigger b (dinLevels d)) (on (b .converter .converting)) h
+begins-free b (LatchLevel level) k h = never h
 begins-free b (PortPins q v) k h = never h
 begins-free b Tick k h =
     let c = counter0Ticked (dividersTicked b) in
-    sym (ap (λ (x : Converter). x .converting) (counter0-same b)) ∙ free (out2Trigger c (clocked1 c)) (c .converter .converting) h
+    sym (ap (λ (x : Converter). on (x .converting)) (counter0-same b)) ∙ free (out2Trigger c (clocked1 c)) (on (c .converter .converting)) h
 begins-free b TransferEnd k h = never h
 
 -- no end resets
@@ -134,16 +135,16 @@ end-stays (ReadByte n) h = refl
 end-stays (ReadWord n) h = refl
 end-stays (ConversionEnd code) h = refl
 end-stays (DinPins d) h = refl
-end-stays (LatchLevel high) h = refl
+end-stays (LatchLevel level) h = refl
 end-stays (PortPins q v) h = refl
 end-stays Tick h = refl
 end-stays TransferEnd h = refl
 
 -- ---- an event abandons a conversion exactly where one was in progress, the event is no end, and none is in progress after it
-pub abandoned : (b : Board) (o : ℕ) (e : List ℕ) (ev : Event) → abandons b ev ≡ b .converter .converting && not (ends ev) && not (runsAfter b o e ev)
-abandoned b o e ev = by (b .converter .converting) (ends ev) (begins b ev) (resets ev) refl refl refl refl
+pub abandoned : (b : Board) (o : ℕ) (e : List ℕ) (ev : Event) → abandons b ev ≡ on (b .converter .converting) && not (ends ev) && not (runsAfter b o e ev)
+abandoned b o e ev = by (on (b .converter .converting)) (ends ev) (begins b ev) (resets ev) refl refl refl refl
   where
-    by : (c t s u : Bool) → b .converter .converting ≡ c → ends ev ≡ t → begins b ev ≡ s → resets ev ≡ u
+    by : (c t s u : Bool) → on (b .converter .converting) ≡ c → ends ev ≡ t → begins b ev ≡ s → resets ev ≡ u
         → c && resets ev ≡ c && not t && not (runsAfter b o e ev)
     by false t s u c k h r = refl
     by true true s u c k h r = end-stays ev k

@@ -6,6 +6,7 @@ use lib.Dec.{eqb, ltb}
 use mathlib.Core.Bool.{Bool, true, false}
 use mathlib.Core.Option.{Option, none, some}
 use lib.IntN.{ℤ}
+use Rattle.base.specs.Flags.{on}
 use Rattle.converter.specs.Channels.{endStarts}
 use Rattle.converter.specs.Begins.{softwareStarts, clockStarts, startsOn}
 use Rattle.timer.specs.Timer.{out, fell, clockedIf}
@@ -20,6 +21,7 @@ use Rattle.machine_pins.specs.Pins.{fellFrom, dinMoved, triggersStopped}
 use Rattle.machine_reset.specs.Reset.{isReset}
 use Rattle.machine.specs.declared.Board.{Board}
 use Rattle.bus.specs.Place.{placeOf}
+use Rattle.board_act.specs.Act.{dinLevels}
 use Rattle.bus.specs.declared.Place.{Place}
 use Rattle.bus.specs.declared.Place.the-variants.{Start, Digital, LowChannel, HighChannel, DacLeast, DacMost, Depth, FifoControl}
 use Rattle.bus.specs.declared.Place.the-variants.{Miscellaneous, Operation, CounterControl, Analog, Count, ControlWord, PortData, PortControl}
@@ -29,7 +31,7 @@ use Rattle.events.specs.declared.Event.the-variants.{WriteByte, ReadByte, ReadW
 
 -- the timer goes to t: with CLKEN and CLKSEL = 1 a falling OUT2 is a trigger
 abbrev pub timerBegins : Board → Timer → Bool
-timerBegins b t = clockStarts (b .converter) (b .requests .clksel) (fell (out (b .clocks .timer) Counter2) (out t Counter2)) false false
+timerBegins b t = clockStarts (b .converter) (on (b .requests .clksel)) (fell (out (b .clocks .timer) Counter2) (out t Counter2)) false false
 
 abbrev pub writtenBegins : Board → Written → Bool
 writtenBegins b (Accepted t) = timerBegins b t
@@ -63,7 +65,7 @@ writeBegins b Outside v = false
 
 -- with CLKEN and CLKSEL = 0 a falling DIN3 is a trigger, by DIN2 as it then is
 abbrev pub dinBegins : Board → ℕ → Bool
-dinBegins b din = clockStarts (b .converter) (b .requests .clksel) false (fellFrom (b .pins .din) din 8) (triggersStopped (dinMoved b din))
+dinBegins b din = clockStarts (b .converter) (on (b .requests .clksel)) false (fellFrom (b .pins .din) din 8) (triggersStopped (dinMoved b din))
 
 -- a tick clocks counter 1, whose OUT may clock counter 2; counter 0 moves before and moves no OUT2
 abbrev pub tickBegins : Board → Bool
@@ -76,8 +78,8 @@ begins b (WriteByte offset value) = writeBegins b (placeOf (b .registers .page) 
 begins b (ReadByte offset) = false
 begins b (ReadWord offset) = false
 begins b (ConversionEnd code) = endStarts (b .converter)
-begins b (DinPins d) = dinBegins b (d .lines)
-begins b (LatchLevel high) = false
+begins b (DinPins d) = dinBegins b (dinLevels d)
+begins b (LatchLevel level) = false
 begins b (PortPins q v) = false
 begins b Tick = tickBegins b
 begins b TransferEnd = false
@@ -93,7 +95,7 @@ codeIn (ReadByte offset) = none
 codeIn (ReadWord offset) = none
 codeIn (ConversionEnd code) = some code
 codeIn (DinPins d) = none
-codeIn (LatchLevel high) = none
+codeIn (LatchLevel level) = none
 codeIn (PortPins q v) = none
 codeIn Tick = none
 codeIn TransferEnd = none
@@ -117,11 +119,11 @@ resets (ReadByte offset) = false
 resets (ReadWord offset) = false
 resets (ConversionEnd code) = false
 resets (DinPins d) = false
-resets (LatchLevel high) = false
+resets (LatchLevel level) = false
 resets (PortPins q v) = false
 resets Tick = false
 resets TransferEnd = false
 
 -- "A reset ... abandons conversion": the one in progress
 abbrev pub abandons : Board → Event → Bool
-abandons b event = b .converter .converting && resets event
+abandons b event = on (b .converter .converting) && resets event

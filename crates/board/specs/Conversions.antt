@@ -3,6 +3,7 @@ use Prim.Native.Nat.{ℕ}
 use mathlib.Core.Path.{_≡_, refl, sym, ap, _∙_}
 use mathlib.Core.Bool.{Bool, true, false, not, _&&_, _||_}
 use mathlib.Core.List.{List}
+use Rattle.base.specs.Flags.{on}
 use Rattle.base.specs.Choice.{if_then_else_}
 use Rattle.base.specs.Fields.{bit}
 use Rattle.base.specs.Laws.{by-choice, never}
@@ -28,7 +29,7 @@ use Rattle.bus.specs.declared.Place.{Place}
 use Rattle.bus.specs.declared.Place.the-variants.{Start, Digital, LowChannel, HighChannel, DacLeast, DacMost, Depth, FifoControl}
 use Rattle.bus.specs.declared.Place.the-variants.{Miscellaneous, Operation, CounterControl, Analog, Count, ControlWord, PortData, PortControl}
 use Rattle.bus.specs.declared.Place.the-variants.{Reserved, Auxiliary, CalData, CalAddress, CalCommand, CalKey, Outside}
-use Rattle.board_act.specs.Act.{acted}
+use Rattle.board_act.specs.Act.{dinLevels, acted}
 use Rattle.board.specs.Resets.{placeResets, place-resets}
 use Rattle.board.specs.Begins.{timerBegins, writtenBegins, writeBegins, dinBegins, tickBegins, begins, ends, resets}
 use Rattle.events.specs.declared.Event.{Event}
@@ -41,7 +42,7 @@ no-fall false = refl
 
 out2-stays : (t : Timer) (g : Gates) (p : Bool) → out (clockedIf t Counter0 g p) Counter2 ≡ out t Counter2
 unfolding clockedIf moved
-out2-stays t g true = rw (no-fall (t .counter1 .count .out))
+out2-stays t g true = rw (no-fall (on (t .counter1 .count .out)))
 out2-stays t g false = refl
 
 no-edge : (a b s : Bool) → a && (b && false || not b && false && not s) ≡ false
@@ -52,7 +53,7 @@ no-edge false b s = refl
 -- the converter is what it was where no OUT2 falls
 turned-same : (b : Board) (t : Timer) → out t Counter2 ≡ out (b .clocks .timer) Counter2 → turned b t .converter ≡ b .converter
 unfolding turned
-turned-same b t h = rw (h, no-fall (out (b .clocks .timer) Counter2), no-edge (b .converter .clken) (b .requests .clksel) false)
+turned-same b t h = rw (h, no-fall (out (b .clocks .timer) Counter2), no-edge (on (b .converter .clken)) (on (b .requests .clksel)) false)
 
 pub counter0-same : (b : Board) → counter0Ticked (dividersTicked b) .converter ≡ b .converter
 unfolding counter0Ticked dividersTicked
@@ -65,7 +66,7 @@ din0-same b n fallen = turned-same _ _ (out2-stays _ _ _)
 -- ---- what begins a conversion starts it on the selected channel
 -- the trigger by a timer that goes to t
 abbrev pub out2Trigger : Board → Timer → Bool
-out2Trigger b t = clockTrigger (b .converter) (b .requests .clksel) (fell (out (b .clocks .timer) Counter2) (out t Counter2)) false false
+out2Trigger b t = clockTrigger (b .converter) (on (b .requests .clksel)) (fell (out (b .clocks .timer) Counter2) (out t Counter2)) false false
 
 written-begun : (b : Board) (w : Written) → writtenBegins b w ≡ true → turnedBy b w .converter ≡ started (b .converter)
 unfolding turned
@@ -101,10 +102,10 @@ write-begun b Outside v h = never h
 -- the converter after DIN levels and after a tick: a trigger, where there is one
 pub din-triggered : (b : Board) (n : ℕ)
     → dinSet b n .converter
-    ≡ clockTriggered (b .converter) (b .requests .clksel) false (fellFrom (b .pins .din) n 8) (triggersStopped (dinMoved b n))
+    ≡ clockTriggered (b .converter) (on (b .requests .clksel)) false (fellFrom (b .pins .din) n 8) (triggersStopped (dinMoved b n))
 unfolding dinSet din3Triggered din0Clocked dinMoved turned
 din-triggered b n =
-    ap (λ (c : Converter). clockTriggered c (b .requests .clksel) false (fellFrom (b .pins .din) n 8) (triggersStopped (dinMoved b n)))
+    ap (λ (c : Converter). clockTriggered c (on (b .requests .clksel)) false (fellFrom (b .pins .din) n 8) (triggersStopped (dinMoved b n)))
     (din0-same b n (fellFrom (b .pins .din) n 1))
 
 -- the timer after the tick of counter 1, and what it makes of the converter
@@ -124,7 +125,7 @@ tick-lost b h =
     trigger-lost (c .converter) (out2Trigger c (clocked1 c)) h ∙ counter0-same b
 
 abbrev pub dinTrigger : Board → ℕ → Bool
-dinTrigger b n = clockTrigger (b .converter) (b .requests .clksel) false (fellFrom (b .pins .din) n 8) (triggersStopped (dinMoved b n))
+dinTrigger b n = clockTrigger (b .converter) (on (b .requests .clksel)) false (fellFrom (b .pins .din) n 8) (triggersStopped (dinMoved b n))
 
 pub begun : (b : Board) (o : ℕ) (e : List ℕ) (ev : Event) → begins b ev ≡ true → acted b o e ev .board .converter ≡ started (b .converter)
 unfolding acted begins
@@ -132,8 +133,8 @@ begun b o e (WriteByte n v) h = write-begun b (placeOf (b .registers .page) n) v
 begun b o e (ReadByte n) h = never h
 begun b o e (ReadWord n) h = never h
 begun b o e (ConversionEnd code) h = end-begins (b .converter) h
-begun b o e (DinPins d) h = din-triggered b (d .lines) ∙ trigger-begins (b .converter) (dinTrigger b (d .lines)) h
-begun b o e (LatchLevel high) h = never h
+begun b o e (DinPins d) h = din-triggered b (dinLevels d) ∙ trigger-begins (b .converter) (dinTrigger b (dinLevels d)) h
+begun b o e (LatchLevel level) h = never h
 begun b o e (PortPins q v) h = never h
 begun b o e Tick h = tick-begun b h
 begun b o e TransferEnd h = never h
@@ -147,21 +148,21 @@ over b o e (ReadByte n) h k = never k
 over b o e (ReadWord n) h k = never k
 over b o e (ConversionEnd code) h k = end-over (b .converter) h
 over b o e (DinPins d) h k = never k
-over b o e (LatchLevel high) h k = never k
+over b o e (LatchLevel level) h k = never k
 over b o e (PortPins q v) h k = never k
 over b o e Tick h k = never k
 over b o e TransferEnd h k = never k
 
 -- ---- every other event leaves whether a conversion runs, and its channel
 pub record Same (c d : Converter) : Type 0 where
-  pub converting : d .converting ≡ c .converting
+  pub converting : on (d .converting) ≡ on (c .converting)
   pub channel : d .channel ≡ c .channel
 
 alike : (c : Converter) → Same c c
 alike c = record { converting = refl; channel = refl }
 
 equal : (c d : Converter) → d ≡ c → Same c d
-equal c d h = record { converting = ap (λ (x : Converter). x .converting) h; channel = ap (λ (x : Converter). x .channel) h }
+equal c d h = record { converting = ap (λ (x : Converter). on (x .converting)) h; channel = ap (λ (x : Converter). x .channel) h }
 
 written-lost : (b : Board) (w : Written) → writtenBegins b w ≡ false → turnedBy b w .converter ≡ b .converter
 unfolding turned
@@ -232,8 +233,8 @@ same b o e (WriteByte n v) h k a = write-same b (placeOf (b .registers .page) n)
 same b o e (ReadByte n) h k a = equal _ _ (read-same b (placeOf (b .registers .page) n))
 same b o e (ReadWord n) h k a = alike (b .converter)
 same b o e (ConversionEnd code) h k a = never (sym k)
-same b o e (DinPins d) h k a = equal _ _ (din-triggered b (d .lines) ∙ trigger-lost (b .converter) (dinTrigger b (d .lines)) h)
-same b o e (LatchLevel high) h k a = alike (b .converter)
+same b o e (DinPins d) h k a = equal _ _ (din-triggered b (dinLevels d) ∙ trigger-lost (b .converter) (dinTrigger b (dinLevels d)) h)
+same b o e (LatchLevel level) h k a = alike (b .converter)
 same b o e (PortPins q v) h k a = alike (b .converter)
 same b o e Tick h k a = equal _ _ (tick-lost b h)
 same b o e TransferEnd h k a = alike (b .converter)

@@ -12,7 +12,7 @@ use Rattle.base.specs.Choice.{if_then_else_}
 use Rattle.base.specs.Checks.{refusal}
 use Rattle.base.specs.Laws.{by-test}
 use Rattle.fifo.specs.Samples.{oldestOf}
-use Rattle.fifo.specs.Queue.{queue, layout, emptyFifo, WorkingFifo}
+use Rattle.fifo.specs.Queue.{queue, layout, emptyFifo, pushedTo, WorkingFifo}
 use Rattle.fifo.specs.Queue.Laws.{queue-push, push-works, queue-pop, pop-works, queue-clear, clear-works}
 use Rattle.fifo.specs.declared.Fifo.{Fifo}
 use Rattle.converter.specs.Working.{ended-works}
@@ -25,6 +25,9 @@ use Rattle.timer.specs.Timer.{gatesMoved}
 use Rattle.machine.specs.Fresh.{freshBoard}
 use Rattle.machine_reset.specs.Reset.{boardReset}
 use Rattle.machine.specs.Working.{WorkingMachine}
+use Rattle.base.specs.Flags.{nonzero, on-flag}
+use Rattle.converter.specs.Channels.{isLast}
+use Rattle.requests.specs.Working as requests
 use Rattle.machine.specs.Kept.{converter-kept, calibration-kept, same-working, fresh-working}
 use Rattle.machine_tick.specs.Kept.{ticked-works}
 use Rattle.machine_pins.specs.Kept.{din-works, latch-works, port-works}
@@ -37,8 +40,8 @@ use Rattle.bus.specs.declared.Effect.{Effect}
 use Rattle.bus.specs.declared.Effect.the-variants.{Keep, Take, Store, Empty}
 use Rattle.board_refusal.specs.Working.{WorkingBoard}
 use Rattle.board_refusal.specs.Refusals.{eventChecks, checks}
-use Rattle.board.specs.Passed.{Passed, passed, din-in-range}
-use Rattle.board_act.specs.Act.{acted, eepromActed}
+use Rattle.board.specs.Passed.{Passed, passed, din-levels-le}
+use Rattle.board_act.specs.Act.{dinLevels, acted, eepromActed}
 use Rattle.board.specs.Step.{samplesAfter, fifoAfter, ran, ranFrom, number, refusedBy, stepOf, memoryAfter, eepromAfter}
 use Rattle.board.specs.declared.Outcome.{Outcome}
 use Rattle.events.specs.declared.Event.{Event}
@@ -52,9 +55,10 @@ acted-works b o e (WriteByte n v) w h = written-works b (placeOf (b .registers .
 acted-works b o e (ReadByte n) w h = read-works b (placeOf (b .registers .page) n) w
 acted-works b o e (ReadWord n) w h = w
 acted-works b o e (ConversionEnd code) w h =
-    same-working _ _ (converter-kept b w _ (ended-works (b .converter) (w .converter))) (w .din) refl refl refl refl refl refl refl
-acted-works b o e (DinPins d) w h = din-works b (d .lines) (din-in-range b d h) w
-acted-works b o e (LatchLevel high) w h = latch-works b high w
+    same-working _ _ (converter-kept b w _ (ended-works (b .converter) (w .converter)))
+    (requests.ad-works (b .requests) (isLast (b .converter)) (pushedTo (b .fifo) .held) (w .requests)) (w .din) (w .latch) refl refl refl refl refl refl refl
+acted-works b o e (DinPins d) w h = din-works b (dinLevels d) (din-levels-le d) w
+acted-works b o e (LatchLevel level) w h = latch-works b (nonzero level) w
 acted-works b o e (PortPins q v) w h = port-works b q v w
 acted-works b o e Tick w h = ticked-works b w
 acted-works b o e TransferEnd w h = calibration-kept b w _ (ends.ended-works (b .calibration) e (w .calibration))
@@ -82,7 +86,7 @@ ran-works b m e ev p =
     let a = acted b (oldestOf (queue (b .fifo) m)) e ev in
     let w = acted-works b (oldestOf (queue (b .fifo) m)) e ev (p .works .machine) (p .event) in
     record {
-      machine = same-working (a .board) _ w (w .din) refl refl refl refl refl refl refl;
+      machine = same-working (a .board) _ w (w .requests) (w .din) (w .latch) refl refl refl refl refl refl refl;
       fifo = effect-works (b .fifo) m (p .works .fifo) (a .effect);
     }
 
@@ -98,7 +102,7 @@ eeprom-long b e (ReadByte n) = refl
 eeprom-long b e (ReadWord n) = refl
 eeprom-long b e (ConversionEnd code) = refl
 eeprom-long b e (DinPins d) = refl
-eeprom-long b e (LatchLevel high) = refl
+eeprom-long b e (LatchLevel level) = refl
 eeprom-long b e (PortPins q v) = refl
 eeprom-long b e Tick = refl
 eeprom-long b e TransferEnd = ends.eeprom-length (b .calibration) e
@@ -139,4 +143,4 @@ fresh-works j zeroscale = record { machine = fresh-working j zeroscale; fifo = c
 -- "A fresh board is as after RESETA"
 pub fresh-reset : (j : Jumpers) (zeroscale : Bool) → boardReset (freshBoard j zeroscale) true ≡ freshBoard j zeroscale
 unfolding boardReset gatesMoved gateMoved setupOf command
-fresh-reset j zeroscale = refl
+fresh-reset j zeroscale = simp on-flag

@@ -14,6 +14,7 @@ use Rattle.board_refusal.specs.Working.{workingBoard, WorkingBoard, board-of}
 use Rattle.board_stores.specs.Stores.{wrongLengths}
 use Rattle.board_stores.specs.Lengths.{right-lengths}
 use Rattle.board_refusal.specs.Refusals.{eventChecks, checks}
+use Rattle.board_act.specs.Act.{dinLevels}
 use Rattle.events.specs.declared.Din.{Din}
 use Rattle.events.specs.declared.Event.{Event}
 use Rattle.events.specs.declared.Event.the-variants.{DinPins}
@@ -39,3 +40,10 @@ passed b m e ev h =
 pub din-in-range : (b : Board) (d : Din) → refusal (eventChecks b (DinPins d)) ≡ 0 → d .lines ≤ 15
 unfolding eventChecks
 din-in-range b d h = omega (arith, ltb-false 15 (d .lines) (passes (ltb 15 (d .lines)) 5 [] (omega arith) h .0))
+
+pub din-levels-le : (d : Din) → dinLevels d ≤ 15
+din-levels-le d = omega arith
+
+-- and are taken whole
+pub din-levels-whole : (b : Board) (d : Din) → refusal (eventChecks b (DinPins d)) ≡ 0 → dinLevels d ≡ d .lines
+din-levels-whole b d h = let n : d .lines ≤ 15 = din-in-range b d h in omega arith

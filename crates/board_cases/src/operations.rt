@@ -1,7 +1,8 @@
 // The operations of a case:
-//   wOOHH byte write; rOO byte read; xOO word read; eHHHH conversion end, the code's 16 bits; dHH DIN pins; l0, l1 Latch level; pNHH pins of
+//   wOOHH byte write; rOO byte read; xOO word read; eHHHH conversion end, the code's 16 bits; dHH DIN pins; lH Latch level; pNHH pins of
 //   port N (0 A, 1 B, 2 C); tHHHH so many ticks; f transfer end; bNZ a fresh board, jumpers N, zero scale Z; nHHHH so many software-triggered
 //   conversions, whose codes count on; mOOHH, hOOOOHHHH the host sets a place of EEPROM, of sample memory; zNN spoils the board; y, q show it.
+// Offsets, DIN and Latch levels of more digits are handed on as they stand.
 use super::bench;
 use super::bench::Bench;
 use board::Din;
@@ -19,7 +20,7 @@ enum Act {
 
 fn write_of(value: u32) -> Event {
     Event::WriteByte {
-        offset: (value / 256 % 256) as u8,
+        offset: value / 256,
         value: (value % 256) as u8,
     }
 }
@@ -36,14 +37,13 @@ fn port_pins_of(value: u32) -> Event {
 
 // What a letter asks for with a value.
 fn act_of(letter: u8, value: u32) -> Act {
-    let low = (value % 256) as u8;
     match letter {
         b'w' => Act::One(write_of(value)),
-        b'r' => Act::One(Event::ReadByte { offset: low }),
-        b'x' => Act::One(Event::ReadWord { offset: low }),
+        b'r' => Act::One(Event::ReadByte { offset: value }),
+        b'x' => Act::One(Event::ReadWord { offset: value }),
         b'e' => Act::One(end_of((value % 65536) as u16)),
-        b'd' => Act::One(Event::DinPins(Din { lines: low })),
-        b'l' => Act::One(Event::LatchLevel { high: low == 1 }),
+        b'd' => Act::One(Event::DinPins(Din { lines: value })),
+        b'l' => Act::One(Event::LatchLevel { level: value }),
         b'p' => Act::One(port_pins_of(value)),
         b'f' => Act::One(Event::TransferEnd),
         b't' => Act::ManyTicks(value % 65536),

@@ -1,2 +1,3 @@
+pub mod SpoiledFlags
 pub mod Spoils
 pub mod Unfit

@@ -1,8 +1,8 @@
--- What spoils a board's record, by numbers 05 to 23 hex. Every spoil acts on the record as it stands and leaves all that it does not name;
--- another number leaves the whole record.
+-- What spoils a board's record, by numbers 05 to 49 hex: 05 to 23 stand here, those of the flags in SpoiledFlags. Every spoil acts on the
+-- record as it stands and leaves all that it does not name; another number leaves the whole record.
 use Prim.Native.Nat.{ℕ}
 use mathlib.Core.Bool.{true, false}
-use lib.Dec.{eqb}
+use lib.Dec.{eqb, ltb}
 use Rattle.base.specs.Choice.{if_then_else_}
 use Rattle.calibration.specs.declared.Calibration.{Calibration}
 use Rattle.converter.specs.declared.channels.Converter.{Converter}
@@ -19,14 +19,15 @@ use Rattle.outputs.specs.declared.Load.{Load}
 use Rattle.outputs.specs.declared.Outputs.{Outputs}
 use Rattle.ports.specs.declared.Ports.{Ports}
 use Rattle.timer.specs.declared.Timer.{Timer}
+use Rattle.board_host.specs.SpoiledFlags.{damaged}
 
 -- ---- sample memory
 -- 05: 513 samples held. 06: 511 samples held and OVF set. 21: no sample held and OVF set
 unfoldable pub spoiledFifo : Fifo → ℕ → Fifo
 spoiledFifo f n =
     if eqb n 0x05 then record { held = 513; ovf = f .ovf }
-    else if eqb n 0x06 then record { held = 511; ovf = true }
-    else if eqb n 0x21 then record { held = 0; ovf = true }
+    else if eqb n 0x06 then record { held = 511; ovf = 1 }
+    else if eqb n 0x21 then record { held = 0; ovf = 1 }
     else f
 
 -- ---- channels
@@ -37,7 +38,7 @@ spoiledConverter c n = record {
   high = if eqb n 0x09 then 32 else c .high;
   selected = if eqb n 0x07 then 32 else c .selected;
   channel = if eqb n 0x0A then 32 else c .channel;
-  converting = if eqb n 0x0A then true else c .converting;
+  converting = if eqb n 0x0A then 1 else c .converting;
   scanen = c .scanen;
   clken = c .clken;
 }
@@ -64,7 +65,7 @@ withOutLow c = record {
   count = record {
     register = c .count .register;
     element = c .count .element;
-    out = false;
+    out = 0;
     waiting = c .count .waiting;
     loaded = c .count .loaded;
   };
@@ -116,8 +117,8 @@ spoiledClocks k n = record {
 -- 13: output channel 4 is loaded with code 0. 14: output channel 0 is loaded with code 4096
 abbrev pub spoiledLoad : Load → ℕ → Load
 spoiledLoad l n =
-    if eqb n 0x13 then record { loaded = true; channel = 4; code = 0 }
-    else if eqb n 0x14 then record { loaded = true; channel = 0; code = 4096 }
+    if eqb n 0x13 then record { loaded = 1; channel = 4; code = 0 }
+    else if eqb n 0x14 then record { loaded = 1; channel = 0; code = 4096 }
     else l
 
 -- 12: code of output 0 is 4096. 1C: code of output 3 is 4096
@@ -182,8 +183,9 @@ unfoldable pub spoiledWiring : Wiring → ℕ → Wiring
 spoiledWiring w n = record { inputs = if eqb n 0x19 then 4 else w .inputs; zeroscale = w .zeroscale }
 
 -- ---- the board
-unfoldable pub spoiled : Board → ℕ → Board
-spoiled b n = record {
+-- 05 to 23: something out of its range
+unfoldable pub spoiledRanges : Board → ℕ → Board
+spoiledRanges b n = record {
   converter = spoiledConverter (b .converter) n;
   requests = b .requests;
   fifo = spoiledFifo (b .fifo) n;
@@ -195,3 +197,7 @@ spoiled b n = record {
   pins = spoiledPins (b .pins) n;
   wiring = spoiledWiring (b .wiring) n;
 }
+
+-- 24 and more: a flag that is neither 0 nor 1
+unfoldable pub spoiled : Board → ℕ → Board
+spoiled b n = if ltb n 0x24 then spoiledRanges b n else damaged b n

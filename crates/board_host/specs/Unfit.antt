@@ -1,11 +1,11 @@
 -- No spoiled board is a working one, whatever it was before and whatever its sample memory holds: each number from 05 to 23 hex puts
--- something out of its range.
-use Prim.Native.Nat.{ℕ, _+_, _≤_, _<_}
+-- something out of its range, and each from 24 to 49 makes a flag 2.
+use Prim.Native.Nat.{ℕ, _+_, _-_, _≤_, _<_}
 use mathlib.Core.Path.{_≡_, refl, sym}
 use mathlib.Core.Bool.{Bool, true, false}
 use mathlib.Core.List.{List}
 use native.Mathlib.Omega.{arith}
-use borrow.Author.Tests.{eqb-false, ltb-true, leb-true, leb-false}
+use borrow.Author.Tests.{eqb-false, ltb-true, ltb-false, leb-true, leb-false}
 use lib.Dec.{eqb, ltb, leb}
 use Rattle.base.specs.Choice.{if_then_else_}
 use Rattle.counting_modes.specs.Control.{command, setupOf}
@@ -23,7 +23,9 @@ use Rattle.ports.specs.Working.{WorkingControl, WorkingPorts}
 use Rattle.ports.specs.declared.Ports.{Ports}
 use Rattle.board_host.specs.Spoils.{spoiledFifo, spoiledConverter, oneToLoad, outLow, mode1, spoiledCounter, spoiledCounter0}
 use Rattle.board_host.specs.Spoils.{spoiledTimer, spoiledClocks, spoiledOutputs, spoiledPorts, spoiledCalibration}
-use Rattle.board_host.specs.Spoils.{spoiledRegisters, spoiledPins, spoiledWiring, spoiled}
+use Rattle.board_host.specs.Spoils.{spoiledRegisters, spoiledPins, spoiledWiring, spoiledRanges, spoiled}
+use Rattle.board_host.specs.SpoiledFlags.{damagedFlag, damagedConverter, damagedRequests, damagedFifo, damagedOutputs, placeFrom}
+use Rattle.board_host.specs.SpoiledFlags.{damagedCount, damagedBus, damagedCounter, damagedTimer, damagedClocks, damagedCalibration, damaged}
 
 abbrev Not : ℕ → ℕ → Type 0
 Not n k = n ≡ k → ⊥
@@ -107,11 +109,11 @@ in-ports p n w =
     set : true ≡ false → ⊥
     set e = never (sym e)
 
--- ---- the board
-pub unfit : (b : Board) (memory : List ℕ) (n : ℕ) → 0x05 ≤ n → n ≤ 0x23
-    → WorkingMachine (spoiled b n) → WorkingFifo (spoiled b n .fifo) memory → ⊥
-unfolding spoiled spoiledConverter spoiledTimer spoiledClocks spoiledOutputs spoiledCalibration spoiledRegisters spoiledPins spoiledWiring
-unfit b memory n from to w f =
+-- ---- the numbers 05 to 23
+unfit-ranges : (b : Board) (memory : List ℕ) (n : ℕ) → 0x05 ≤ n → n ≤ 0x23
+    → WorkingMachine (spoiledRanges b n) → WorkingFifo (spoiledRanges b n .fifo) memory → ⊥
+unfolding spoiledRanges spoiledConverter spoiledTimer spoiledClocks spoiledOutputs spoiledCalibration spoiledRegisters spoiledPins spoiledWiring
+unfit-ranges b memory n from to w f =
     let q = in-fifo (b .fifo) memory n f in
     let c0 = in-counter-0 _ n (w .clocks .timer .counter0) in
     let c1 = in-counter _ n 0x1D 0x1F (w .clocks .timer .counter1) in
@@ -150,6 +152,69 @@ unfit b memory n from to w f =
     let n23 = next 0x22 n n22 (p .2) in
     let n24 = next 0x23 n n23 (p .3) in
     omega (arith, n24, to)
+
+-- ---- the numbers 24 to 49
+-- where a flag is 0 or 1, the number is not its own
+other : (n own v : ℕ) → damagedFlag v n own ≤ 1 → Not n own
+unfolding damagedFlag
+other n own v h = above n own 2 v 1 refl h
+
+-- where a counter's flags are, the number has no place among its seven
+in-flags : (c : Counter) (at : ℕ) → Working (damagedCounter c at) → 7 ≤ at
+unfolding damagedCounter damagedCount damagedBus
+in-flags c at w =
+    let a1 = next 0 at (omega arith) (other at 0 _ (w .flags .trigger)) in
+    let a2 = next 1 at a1 (other at 1 _ (w .flags .count .out)) in
+    let a3 = next 2 at a2 (other at 2 _ (w .flags .count .waiting)) in
+    let a4 = next 3 at a3 (other at 3 _ (w .flags .count .loaded)) in
+    let a5 = next 4 at a4 (other at 4 _ (w .flags .bus .latched)) in
+    let a6 = next 5 at a5 (other at 5 _ (w .flags .bus .halfread)) in
+    next 6 at a6 (other at 6 _ (w .flags .bus .halfwritten))
+
+after : (n first : ℕ) → first ≤ n → 7 ≤ placeFrom n first → first + 7 ≤ n
+unfolding placeFrom
+after n first from h = by (ltb n first) refl h
+  where
+    by : (b : Bool) → ltb n first ≡ b → 7 ≤ (if b then 7 else n - first) → first + 7 ≤ n
+    by true t h = absurd (let z : n < first = ltb-true n first t in omega (arith, z, from))
+    by false t h = omega (arith, from, h)
+
+unfit-flags : (b : Board) (memory : List ℕ) (n : ℕ) → 0x24 ≤ n → n ≤ 0x49
+    → WorkingMachine (damaged b n) → WorkingFifo (damaged b n .fifo) memory → ⊥
+unfolding damaged damagedConverter damagedRequests damagedFifo damagedOutputs damagedTimer damagedClocks damagedCalibration
+unfit-flags b memory n from to w f =
+    let n25 = next 0x24 n from (other n _ _ (w .converter .converting)) in
+    let n26 = next 0x25 n n25 (other n _ _ (w .converter .scanen)) in
+    let n27 = next 0x26 n n26 (other n _ _ (w .converter .clken)) in
+    let n28 = next 0x27 n n27 (other n _ _ (w .requests .fifoen)) in
+    let n29 = next 0x28 n n28 (other n _ _ (w .requests .clksel)) in
+    let n2A = next 0x29 n n29 (other n _ _ (w .requests .adinte)) in
+    let n2B = next 0x2A n n2A (other n _ _ (w .requests .dinte)) in
+    let n2C = next 0x2B n n2B (other n _ _ (w .requests .tinte)) in
+    let n2D = next 0x2C n n2C (other n _ _ (w .requests .adint)) in
+    let n2E = next 0x2D n n2D (other n _ _ (w .requests .dint)) in
+    let n2F = next 0x2E n n2E (other n _ _ (w .requests .tint)) in
+    let n30 = next 0x2F n n2F (other n _ _ (f .flag)) in
+    let n31 = next 0x30 n n30 (other n _ _ (w .outputs .load .loaded)) in
+    let n38 = after n 0x31 n31 (in-flags _ _ (w .clocks .timer .counter0)) in
+    let n3F = after n 0x38 n38 (in-flags _ _ (w .clocks .timer .counter1)) in
+    let n46 = after n 0x3F n3F (in-flags _ _ (w .clocks .timer .counter2)) in
+    let n47 = next 0x46 n n46 (other n _ _ (w .calibration .key)) in
+    let n48 = next 0x47 n n47 (other n _ _ (w .calibration .cmuxen)) in
+    let n49 = next 0x48 n n48 (other n _ _ (w .latch)) in
+    let n4A = next 0x49 n n49 (other n _ _ (w .zeroscale)) in
+    omega (arith, n4A, to)
+
+-- ---- the board
+pub unfit : (b : Board) (memory : List ℕ) (n : ℕ) → 0x05 ≤ n → n ≤ 0x49
+    → WorkingMachine (spoiled b n) → WorkingFifo (spoiled b n .fifo) memory → ⊥
+unfolding spoiled
+unfit b memory n from to w f = by (ltb n 0x24) refl w f
+  where
+    by : (t : Bool) → ltb n 0x24 ≡ t → WorkingMachine (if t then spoiledRanges b n else damaged b n)
+        → WorkingFifo ((if t then spoiledRanges b n else damaged b n) .fifo) memory → ⊥
+    by true t w f = unfit-ranges b memory n from (let z : n < 0x24 = ltb-true n 0x24 t in omega (arith, z)) w f
+    by false t w f = unfit-flags b memory n (let z : 0x24 ≤ n = ltb-false n 0x24 t in omega (arith, z)) to w f
 
 -- ---- control words 54 and 94 leave counters 1 and 2 as 14 leaves counter 0
 pub as-after-54 : commanded unprogrammed 0x54 ≡ commanded unprogrammed 0x14

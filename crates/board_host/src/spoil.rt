@@ -1,8 +1,9 @@
 // Spoils a board's record, so that it is no working board's (specs/Unfit.antt), by the numbers of the table in tests/models/spoils.py. Each
 // part of the record has its own numbers, and the others leave it. Each contract is a definition of specs/Spoils.antt.
+use super::spoil_counters;
+use super::spoil_flags;
 use calibration::Calibration;
 use converter::channels::Converter;
-use counting::Counter;
 use fifo::Fifo;
 use machine::Board;
 use machine::Clocks;
@@ -11,11 +12,9 @@ use machine::Registers;
 use machine::Wiring;
 use outputs::Outputs;
 use ports::Ports;
-use timer::Timer;
 ghost use mathlib.Core.Path.{_≡_};
-ghost use Rattle.board_host.specs.Spoils.{spoiledFifo, spoiledConverter, oneToLoad, outLow, mode1, spoiledCounter, spoiledCounter0};
-ghost use Rattle.board_host.specs.Spoils.{spoiledTimer, spoiledClocks, spoiledOutputs, spoiledPorts, spoiledCalibration};
-ghost use Rattle.board_host.specs.Spoils.{spoiledRegisters, spoiledPins, spoiledWiring, spoiled};
+ghost use Rattle.board_host.specs.Spoils.{spoiledFifo, spoiledConverter, spoiledClocks, spoiledOutputs, spoiledPorts};
+ghost use Rattle.board_host.specs.Spoils.{spoiledCalibration, spoiledRegisters, spoiledPins, spoiledWiring, spoiledRanges, spoiled};
 
 fn spoil_fifo(f: Fifo, n: u32) -> Fifo
     ensures { λ r. ⌜ r ≡ spoiledFifo f n ⌝ }
@@ -25,11 +24,8 @@ fn spoil_fifo(f: Fifo, n: u32) -> Fifo
             held: 513,
             ovf: f.ovf,
         },
-        0x06 => Fifo {
-            held: 511,
-            ovf: true,
-        },
-        0x21 => Fifo { held: 0, ovf: true },
+        0x06 => Fifo { held: 511, ovf: 1 },
+        0x21 => Fifo { held: 0, ovf: 1 },
         _ => f,
     }
 }
@@ -53,78 +49,17 @@ fn spoil_channels(c: Converter, n: u32) -> Converter
         }
         0x0A => {
             d.channel = 32;
-            d.converting = true;
+            d.converting = 1;
             d
         }
         _ => c,
     }
 }
 
-// As after a control word 14, but with 1 to load.
-fn one_to_load() -> Counter
-    ensures { λ r. ⌜ r ≡ oneToLoad ⌝ }
-{
-    let mut c = counting::write_word(counting::new(), 0x14);
-    c.count.register = 1;
-    c
-}
-
-// As on a fresh board, but with OUT low.
-fn out_low() -> Counter
-    ensures { λ r. ⌜ r ≡ outLow ⌝ }
-{
-    let mut c = counting::new();
-    c.count.out = false;
-    c
-}
-
-// As after a control word 14, but in mode 1.
-fn mode_1() -> Counter
-    ensures { λ r. ⌜ r ≡ mode1 ⌝ }
-{
-    let mut c = counting::write_word(counting::new(), 0x14);
-    c.control = 0x12;
-    c
-}
-
-// `one` is the number for 1 to load, `low` that for OUT low.
-fn spoil_counter(c: Counter, n: u32, one: u32, low: u32) -> Counter
-    ensures { λ r. ⌜ r ≡ spoiledCounter c n one low ⌝ }
-{
-    if n == one {
-        one_to_load()
-    } else if n == low {
-        out_low()
-    } else {
-        c
-    }
-}
-
-// Counter 0 has a number for mode 1 besides.
-fn spoil_counter_0(c: Counter, n: u32) -> Counter
-    ensures { λ r. ⌜ r ≡ spoiledCounter0 c n ⌝ }
-{
-    if n == 0x1B {
-        mode_1()
-    } else {
-        spoil_counter(c, n, 0x0E, 0x0F)
-    }
-}
-
-fn spoil_timer(t: Timer, n: u32) -> Timer
-    ensures { λ r. ⌜ r ≡ spoiledTimer t n ⌝ }
-{
-    let mut u = t;
-    u.counter0 = spoil_counter_0(t.counter0, n);
-    u.counter1 = spoil_counter(t.counter1, n, 0x1D, 0x1F);
-    u.counter2 = spoil_counter(t.counter2, n, 0x1E, 0x20);
-    u
-}
-
 fn spoil_clocks(k: Clocks, n: u32) -> Clocks
     ensures { λ r. ⌜ r ≡ spoiledClocks k n ⌝ }
 {
-    let t = spoil_timer(k.timer, n);
+    let t = spoil_counters::spoil_timer(k.timer, n);
     let mut l = machine_clock::put_timer(k, t);
     match n {
         0x0C => {
@@ -153,13 +88,13 @@ fn spoil_outputs(o: Outputs, n: u32) -> Outputs
             p
         }
         0x13 => {
-            p.load.loaded = true;
+            p.load.loaded = 1;
             p.load.channel = 4;
             p.load.code = 0;
             p
         }
         0x14 => {
-            p.load.loaded = true;
+            p.load.loaded = 1;
             p.load.channel = 0;
             p.load.code = 4096;
             p
@@ -255,8 +190,9 @@ fn spoil_wiring(w: Wiring, n: u32) -> Wiring
     }
 }
 
-pub fn spoil_board(b: Board, n: u32) -> Board
-    ensures { λ r. ⌜ r ≡ spoiled b n ⌝ }
+// The numbers 05 to 23 put something out of its range.
+fn spoil_ranges(b: Board, n: u32) -> Board
+    ensures { λ r. ⌜ r ≡ spoiledRanges b n ⌝ }
 {
     let mut c = b;
     c.fifo = spoil_fifo(b.fifo, n);
@@ -269,4 +205,15 @@ pub fn spoil_board(b: Board, n: u32) -> Board
     c.pins = spoil_pins(b.pins, n);
     c.wiring = spoil_wiring(b.wiring, n);
     c
+}
+
+// The numbers from 24 on damage a flag.
+pub fn spoil_board(b: Board, n: u32) -> Board
+    ensures { λ r. ⌜ r ≡ spoiled b n ⌝ }
+{
+    if n < 0x24 {
+        spoil_ranges(b, n)
+    } else {
+        spoil_flags::damage_board(b, n)
+    }
 }

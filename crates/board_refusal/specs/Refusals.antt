@@ -4,6 +4,7 @@ use Prim.Native.Nat.{ℕ}
 use mathlib.Core.Bool.{not}
 use mathlib.Core.List.{List, [], _∷_}
 use lib.Dec.{eqb, ltb}
+use Rattle.base.specs.Flags.{on}
 use Rattle.base.specs.Checks.{Check, _refuses_}
 use Rattle.calibration.specs.Registers.{nothingRuns}
 use Rattle.machine.specs.declared.Board.{Board}
@@ -19,9 +20,9 @@ unfoldable pub eventChecks : Board → Event → List Check
 eventChecks b (WriteByte offset value) = writeChecks b (placeOf (b .registers .page) offset) value
 eventChecks b (ReadByte offset) = readChecks (placeOf (b .registers .page) offset)
 eventChecks b (ReadWord offset) = not (eqb offset 0) refuses 3 ∷ []
-eventChecks b (ConversionEnd code) = not (b .converter .converting) refuses 4 ∷ []
+eventChecks b (ConversionEnd code) = not (on (b .converter .converting)) refuses 4 ∷ []
 eventChecks b (DinPins d) = ltb 15 (d .lines) refuses 5 ∷ []
-eventChecks b (LatchLevel high) = []
+eventChecks b (LatchLevel level) = []
 eventChecks b (PortPins q v) = []
 eventChecks b Tick = []
 eventChecks b TransferEnd = nothingRuns (b .calibration) refuses 10 ∷ []

@@ -10,7 +10,11 @@ ghost use Rattle.board_refusal.specs.Refusals.{eventChecks, checks};
 pub fn is_working(board: Board, memory: &[u16]) -> bool
     ensures { λ r. ⌜ r ≡ workingBoard board (now (memory .entry)) ⌝ }
 {
-    machine::is_working(board) & fifo::is_working(board.fifo, memory)
+    if machine::is_working(board) {
+        fifo::is_working(board.fifo, memory)
+    } else {
+        false
+    }
 }
 
 // The number by which an event of a working board is refused, or 0.
@@ -28,9 +32,12 @@ fn event_refusal(board: Board, event: Event) -> u8
             offset,
         )),
         Event::ReadWord { offset } => bus_refusal::number_if(offset != 0, 3),
-        Event::ConversionEnd { code: _ } => bus_refusal::number_if(!board.converter.converting, 4),
+        Event::ConversionEnd { code: _ } => bus_refusal::number_if(
+            board.converter.converting != 1,
+            4,
+        ),
         Event::DinPins(d) => bus_refusal::number_if(d.lines > 15, 5),
-        Event::LatchLevel { high: _ } => 0,
+        Event::LatchLevel { level: _ } => 0,
         Event::PortPins(_, _) => 0,
         Event::Tick => 0,
         Event::TransferEnd => bus_refusal::number_if(calibration::is_idle(board.calibration), 10),

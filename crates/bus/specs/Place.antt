@@ -1,5 +1,5 @@
 -- What an offset names (manual, chapter 6, register map; chapter 8 for the pages).
-use Prim.Native.Nat.{ℕ, _-_}
+use Prim.Native.Nat.{ℕ}
 use mathlib.Core.Bool.{Bool}
 use lib.Dec.{eqb, leb}
 use Rattle.base.specs.Choice.{if_then_else_}

@@ -5,7 +5,7 @@ use timer::Select;
 ghost use mathlib.Core.Path.{_≡_};
 ghost use Rattle.bus.specs.Place.{fixedPlace, timerPlace, portPlace, auxiliaryPlace, calibrationPlace, pagedPlace, placeOf};
 
-fn fixed_place(n: u8) -> Place
+fn fixed_place(n: u32) -> Place
     ensures { λ r. ⌜ r ≡ fixedPlace n ⌝ }
 {
     match n {
@@ -24,7 +24,7 @@ fn fixed_place(n: u8) -> Place
     }
 }
 
-fn timer_place(n: u8) -> Place
+fn timer_place(n: u32) -> Place
     ensures { λ r. ⌜ r ≡ timerPlace n ⌝ }
 {
     match n {
@@ -35,7 +35,7 @@ fn timer_place(n: u8) -> Place
     }
 }
 
-fn port_place(n: u8) -> Place
+fn port_place(n: u32) -> Place
     ensures { λ r. ⌜ r ≡ portPlace n ⌝ }
 {
     match n {
@@ -46,7 +46,7 @@ fn port_place(n: u8) -> Place
     }
 }
 
-fn auxiliary_place(n: u8) -> Place
+fn auxiliary_place(n: u32) -> Place
     ensures { λ r. ⌜ r ≡ auxiliaryPlace n ⌝ }
 {
     if n == 15 {
@@ -56,7 +56,7 @@ fn auxiliary_place(n: u8) -> Place
     }
 }
 
-fn calibration_place(n: u8) -> Place
+fn calibration_place(n: u32) -> Place
     ensures { λ r. ⌜ r ≡ calibrationPlace n ⌝ }
 {
     match n {
@@ -67,7 +67,7 @@ fn calibration_place(n: u8) -> Place
     }
 }
 
-fn paged_place(page: u8, n: u8) -> Place
+fn paged_place(page: u8, n: u32) -> Place
     ensures { λ r. ⌜ r ≡ pagedPlace page n ⌝ }
 {
     match page {
@@ -79,7 +79,7 @@ fn paged_place(page: u8, n: u8) -> Place
 }
 
 // What offset n names on a page.
-pub fn find(page: u8, n: u8) -> Place
+pub fn find(page: u8, n: u32) -> Place
     ensures { λ r. ⌜ r ≡ placeOf page n ⌝ }
 {
     if n <= 11 {

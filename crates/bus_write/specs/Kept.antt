@@ -15,6 +15,7 @@ use Rattle.machine.specs.Kept.{converter-kept, registers-kept, outputs-kept, po
 use Rattle.machine_clock.specs.Kept.{turned-by-works, counting-works}
 use Rattle.machine_reset.specs.Kept.{misc-works}
 use Rattle.machine.specs.declared.Board.{Board}
+use Rattle.requests.specs.Working as requests
 use Rattle.bus_write.specs.Write.{writtenAt}
 use Rattle.bus.specs.declared.Place.{Place}
 use Rattle.bus.specs.declared.Place.the-variants.{Start, Digital, LowChannel, HighChannel, DacLeast, DacMost, Depth, FifoControl}
@@ -30,12 +31,14 @@ written-works b LowChannel v w = converter-kept b w _ (converter.low-works (b .c
 written-works b HighChannel v w = converter-kept b w _ (converter.high-works (b .converter) v (w .converter))
 written-works b DacLeast v w = outputs-kept b w _ (outputs.lsb-works (b .outputs) v (w .outputs))
 written-works b DacMost v w = outputs-kept b w _ (outputs.msb-works (b .outputs) v (w .outputs))
-written-works b Depth v w = same-working b _ w (w .din) refl refl refl refl refl refl refl
+written-works b Depth v w = same-working b _ w (requests.depth-works (b .requests) v (w .requests)) (w .din) (w .latch) refl refl refl refl refl refl refl
 written-works b FifoControl v w =
-    same-working _ _ (converter-kept b w _ (converter.scanen-works (b .converter) v (w .converter))) (w .din) refl refl refl refl refl refl refl
+    same-working _ _ (converter-kept b w _ (converter.scanen-works (b .converter) v (w .converter)))
+    (requests.fifoen-works (b .requests) v (w .requests)) (w .din) (w .latch) refl refl refl refl refl refl refl
 written-works b Miscellaneous v w = misc-works b v w
 written-works b Operation v w =
-    same-working _ _ (converter-kept b w _ (converter.clken-works (b .converter) v (w .converter))) (w .din) refl refl refl refl refl refl refl
+    same-working _ _ (converter-kept b w _ (converter.clken-works (b .converter) v (w .converter)))
+    (requests.enables-works (b .requests) v (w .requests)) (w .din) (w .latch) refl refl refl refl refl refl refl
 written-works b CounterControl v w = counting-works b v w
 written-works b Analog v w =
     registers-kept b w _ (record { page = w .registers .page; dout = w .registers .dout; range = omega arith })

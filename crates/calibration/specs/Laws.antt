@@ -4,6 +4,8 @@ use mathlib.Core.Bool.{true, false}
 use Prim.Native.Nat.{ℕ, _≤_}
 use native.Mathlib.Omega.{arith}
 use borrow.Author.Tests.{leb-true, le-leb}
+use lib.Dec.{eqb}
+use Rattle.base.specs.Flags.{flag-le}
 use Rattle.base.specs.Fields.{bit}
 use Rattle.base.specs.Laws.{choice-le}
 use Rattle.base.specs.Tests.{each, every}
@@ -14,17 +16,17 @@ use Rattle.calibration.specs.Working.{WorkingCalibration, calibrationTes
 
 -- ---- the tests are the facts
 pub calibration-of : (c : Calibration) → calibrationWorks c ≡ true → WorkingCalibration c
-calibration-of c h = let e = each (calibrationTests c) h in record { address = leb-true _ _ (e .0); transfer = leb-true _ _ (e .1 .0) }
+calibration-of c h = let e = each (calibrationTests c) h in omega (arith, leb-true)
 
 pub calibration-to : (c : Calibration) → WorkingCalibration c → calibrationWorks c ≡ true
-calibration-to c w = every (calibrationTests c) (le-leb _ _ (w .address), (le-leb _ _ (w .transfer), tt))
+calibration-to c w = every (calibrationTests c) (le-leb _ _ (w .address), (le-leb _ _ (w .transfer), (le-leb _ _ (w .key), (le-leb _ _ (w .cmuxen), tt))))
 
 -- ---- each operation keeps them
 pub value-works : (c : Calibration) (v : ℕ) → WorkingCalibration c → WorkingCalibration (valueWritten c v)
-value-works c v w = record { address = w .address; transfer = w .transfer }
+value-works c v w = omega arith
 
 pub address-works : (c : Calibration) (v : ℕ) → WorkingCalibration c → WorkingCalibration (addressWritten c v)
-address-works c v w = record { address = omega arith; transfer = w .transfer }
+address-works c v w = omega arith
 
 -- a command is a known transfer
 pub command-known : (v : ℕ) → command v ≤ 4
@@ -33,19 +35,19 @@ command-known v =
     (choice-le (bit v 32) (omega arith) (choice-le (bit v 8) (omega arith) (omega arith)))
 
 pub control-works : (c : Calibration) (v : ℕ) → WorkingCalibration c → WorkingCalibration (controlWritten c v)
-control-works c v w = record { address = w .address; transfer = command-known v }
+control-works c v w = record { address = w .address; transfer = command-known v; key = w .key; cmuxen = omega arith }
 
 pub key-works : (c : Calibration) (v : ℕ) → WorkingCalibration c → WorkingCalibration (keyWritten c v)
-key-works c v w = record { address = w .address; transfer = w .transfer }
+key-works c v w = record { address = w .address; transfer = w .transfer; key = flag-le (eqb v 0xA5); cmuxen = w .cmuxen }
 
 pub forgotten-works : (c : Calibration) → WorkingCalibration c → WorkingCalibration (keyForgotten c)
-forgotten-works c w = record { address = w .address; transfer = w .transfer }
+forgotten-works c w = omega arith
 
 pub reset-works : (c : Calibration) → WorkingCalibration (resetCalibration c)
-reset-works c = record { address = omega arith; transfer = omega arith }
+reset-works c = omega arith
 
 pub fresh-works : WorkingCalibration freshCalibration
-fresh-works = record { address = omega arith; transfer = omega arith }
+fresh-works = omega arith
 
 -- ---- a fresh board's calibration is as after a reset
 pub fresh-reset : resetCalibration freshCalibration ≡ freshCalibration

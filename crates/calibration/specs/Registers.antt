@@ -4,8 +4,9 @@ use mathlib.Core.Bool.{Bool, false, not, _&&_, _||_}
 use mathlib.Core.List.{[], _∷_}
 use Prim.Native.Nat.{ℕ, _+_, _%_}
 use lib.Dec.{eqb}
+use Rattle.base.specs.Flags.{on, flag}
 use Rattle.base.specs.Choice.{if_then_else_}
-use Rattle.base.specs.Fields.{bit}
+use Rattle.base.specs.Fields.{bit, field}
 use Rattle.base.specs.Weights.{weightOf}
 use Rattle.calibration.specs.declared.Calibration.{Calibration}
 use Rattle.transfers.specs.Transfers.{transferOf, runs, eepromBusy, trimDacBusy}
@@ -28,7 +29,7 @@ several v = bit v 128 && bit v 32 || bit v 128 && bit v 8 || bit v 32 && bit v 8
 
 -- refusal 8: EE_EN without the key
 abbrev pub locked : Calibration → ℕ → Bool
-locked c v = bit v 128 && not (c .key)
+locked c v = bit v 128 && not (on (c .key))
 
 -- the number by which a write of 14 is refused, in the order of the checks; 0 where it is not
 abbrev pub controlRefusal : Calibration → ℕ → ℕ
@@ -65,15 +66,15 @@ addressWritten c v = record { value = c .value; address = v % 128; transfer = c 
 
 -- 14: the transfer starts, and CMUXEN takes its bit
 abbrev pub controlWritten : Calibration → ℕ → Calibration
-controlWritten c v = record { value = c .value; address = c .address; transfer = command v; key = c .key; cmuxen = bit v 16; trim = c .trim }
+controlWritten c v = record { value = c .value; address = c .address; transfer = command v; key = c .key; cmuxen = field v 16 2; trim = c .trim }
 
 -- 15: the key is A5; another byte forgets it
 abbrev pub keyWritten : Calibration → ℕ → Calibration
-keyWritten c v = record { value = c .value; address = c .address; transfer = c .transfer; key = eqb v 0xA5; cmuxen = c .cmuxen; trim = c .trim }
+keyWritten c v = record { value = c .value; address = c .address; transfer = c .transfer; key = flag (eqb v 0xA5); cmuxen = c .cmuxen; trim = c .trim }
 
 -- a write of the page, and a reset, forget the key
 abbrev pub keyForgotten : Calibration → Calibration
-keyForgotten c = record { value = c .value; address = c .address; transfer = c .transfer; key = false; cmuxen = c .cmuxen; trim = c .trim }
+keyForgotten c = record { value = c .value; address = c .address; transfer = c .transfer; key = 0; cmuxen = c .cmuxen; trim = c .trim }
 
 -- ---- reads
 abbrev pub valueRead : Calibration → ℕ
@@ -84,7 +85,7 @@ addressRead c = c .address
 
 -- 14: 0 TDBUSY EEBUSY CMUXEN TDACEN 0 0 0; TDACEN reads 1 during its transfer
 abbrev pub statusRead : Calibration → ℕ
-statusRead c = weightOf (tdbusy c) 64 + weightOf (eebusy c) 32 + weightOf (c .cmuxen) 16 + weightOf (tdbusy c) 8
+statusRead c = weightOf (tdbusy c) 64 + weightOf (eebusy c) 32 + weightOf (on (c .cmuxen)) 16 + weightOf (tdbusy c) 8
 
 -- 15: the FPGA revision code
 abbrev pub revision : ℕ
@@ -92,7 +93,7 @@ revision = 34
 
 -- ---- a reset zeroes the registers, forgets the key and abandons the transfer; TrimDAC and EEPROM remain
 abbrev pub resetCalibration : Calibration → Calibration
-resetCalibration c = record { value = 0; address = 0; transfer = 0; key = false; cmuxen = false; trim = c .trim }
+resetCalibration c = record { value = 0; address = 0; transfer = 0; key = 0; cmuxen = 0; trim = c .trim }
 
 -- a fresh board's: the TrimDAC is 0 too
 abbrev pub freshCalibration : Calibration
@@ -100,7 +101,7 @@ freshCalibration = record {
   value = 0;
   address = 0;
   transfer = 0;
-  key = false;
-  cmuxen = false;
+  key = 0;
+  cmuxen = 0;
   trim = 0 ∷ 0 ∷ 0 ∷ 0 ∷ 0 ∷ 0 ∷ 0 ∷ 0 ∷ [];
 }

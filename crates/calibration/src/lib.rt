@@ -12,8 +12,8 @@ pub struct Calibration {
     pub value: u8,
     pub address: u8,
     pub transfer: u8,
-    pub key: bool,
-    pub cmuxen: bool,
+    pub key: u8,
+    pub cmuxen: u8,
     pub trim: [u8; 8],
 }
 
@@ -40,7 +40,7 @@ pub fn is_several(v: u8) -> bool
 pub fn is_locked(c: Calibration, v: u8) -> bool
     ensures { λ r. ⌜ r ≡ locked c v ⌝ }
 {
-    (v / 128 % 2 == 1) & !c.key
+    (v / 128 % 2 == 1) & (c.key != 1)
 }
 
 // The number by which a write of 14 is refused, or 0.
@@ -113,7 +113,7 @@ pub fn write_control(c: Calibration, v: u8) -> Calibration
 {
     let mut d = c;
     d.transfer = command_of(v);
-    d.cmuxen = v / 16 % 2 == 1;
+    d.cmuxen = v / 16 % 2;
     d
 }
 
@@ -122,7 +122,7 @@ pub fn write_key(c: Calibration, v: u8) -> Calibration
     ensures { λ r. ⌜ r ≡ keyWritten c v ⌝ }
 {
     let mut d = c;
-    d.key = v == 0xA5;
+    d.key = (v == 0xA5) as u8;
     d
 }
 
@@ -131,7 +131,7 @@ pub fn forget_key(c: Calibration) -> Calibration
     ensures { λ r. ⌜ r ≡ keyForgotten c ⌝ }
 {
     let mut d = c;
-    d.key = false;
+    d.key = 0;
     d
 }
 
@@ -158,7 +158,10 @@ pub fn read_status(c: Calibration) -> u8
     let t = transfers::transfer_of(c.transfer);
     let td = transfers::uses_trimdac(t);
     let ee = transfers::uses_eeprom(t);
-    base::weight(td, 64) + base::weight(ee, 32) + base::weight(c.cmuxen, 16) + base::weight(td, 8)
+    base::weight(td, 64)
+        + base::weight(ee, 32)
+        + base::weight(c.cmuxen == 1, 16)
+        + base::weight(td, 8)
 }
 
 // A read of 15: the revision code of the FPGA.
@@ -179,8 +182,8 @@ pub fn reset(c: Calibration) -> Calibration
         value: 0,
         address: 0,
         transfer: 0,
-        key: false,
-        cmuxen: false,
+        key: 0,
+        cmuxen: 0,
         trim: trim,
     }
 }
@@ -194,8 +197,8 @@ pub fn fresh() -> Calibration
         value: 0,
         address: 0,
         transfer: 0,
-        key: false,
-        cmuxen: false,
+        key: 0,
+        cmuxen: 0,
         trim: trim,
     }
 }
@@ -204,5 +207,5 @@ pub fn fresh() -> Calibration
 pub fn works(c: Calibration) -> bool
     ensures { λ r. ⌜ r ≡ calibrationWorks c ⌝ }
 {
-    (c.address <= 127) & (c.transfer <= 4)
+    (c.address <= 127) & (c.transfer <= 4) & (c.key <= 1) & (c.cmuxen <= 1)
 }

@@ -14,10 +14,10 @@ use Rattle.calibration.specs.Working.{WorkingCalibration}
 
 pub ended-by-works : (t : Transfer) (c : Calibration) (eeprom : List ℕ) → WorkingCalibration c → WorkingCalibration (endedBy t c eeprom)
 ended-by-works NoTransfer c eeprom w = w
-ended-by-works EepromRead c eeprom w = record { address = w .address; transfer = omega arith }
-ended-by-works EepromWrite c eeprom w = record { address = w .address; transfer = omega arith }
-ended-by-works RunCal c eeprom w = record { address = w .address; transfer = omega arith }
-ended-by-works TrimDac c eeprom w = record { address = w .address; transfer = omega arith }
+ended-by-works EepromRead c eeprom w = omega arith
+ended-by-works EepromWrite c eeprom w = omega arith
+ended-by-works RunCal c eeprom w = omega arith
+ended-by-works TrimDac c eeprom w = omega arith
 
 pub ended-works : (c : Calibration) (eeprom : List ℕ) → WorkingCalibration c → WorkingCalibration (ended c eeprom)
 unfolding ended

@@ -11,7 +11,7 @@ pub struct BusAnswer {
 // A sample that is handed over: its channel and its signed code.
 #[repr(C)]
 pub struct Sample {
-    pub channel: u8,
+    pub channel: u16,
     pub code: i16,
 }
 
@@ -59,7 +59,7 @@ pub fn sample_of(channel: u8, a: u16) -> Sample
     ensures { λ r. ⌜ r ≡ sampleAt channel a ⌝ }
 {
     Sample {
-        channel: channel,
+        channel: channel as u16,
         code: converter::codes::code(a),
     }
 }

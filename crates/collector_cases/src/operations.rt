@@ -1,4 +1,4 @@
-// The operations of a case. Settings: lLLHH low and high, jHH jumpers, gHH range code, kHH clock, mHHHH poll limit. s starts with them.
+// The operations of a case. Settings: lLLHH low and high, jHH jumpers, gHH range code, kHHHH clock, mHHHH poll limit. s starts with them.
 // The record, as a host could lend it: i puts the settings into it; pHH phase, cHH next channel, oHHHH polls, dHHHH reads left.
 // q shows the access; aHHHH brings an answer and shows what is handed over; nCCCCHHHH brings an answer CCCC times and shows how many
 // samples and gaps there were before the last, and the last; h shows the record, f whether it is fit.
@@ -64,7 +64,7 @@ fn choose(b: Bench, letter: u8, value: u32) -> Bench {
         }
         b'j' => s.jumpers = byte(value),
         b'g' => s.range = byte(value),
-        b'k' => s.clock = byte(value),
+        b'k' => s.clock = word(value),
         _ => s.limit = word(value),
     }
     Bench {
@@ -213,7 +213,7 @@ fn number_samples(samples: &mut [i16]) {
 }
 
 // How many of the first n samples are whole scans, and the last of them.
-fn show_scans(samples: &[i16], n: usize, low: u8, high: u8) {
+fn show_scans(samples: &[i16], n: usize, low: u32, high: u32) {
     if n <= samples.len() {
         let part = scans::whole_scans(&samples[..n], low, high);
         panel::text(b" ");
@@ -230,7 +230,7 @@ fn scans(b: Bench, value: u32) -> Bench {
     let mut samples = [0i16; 1024];
     number_samples(&mut samples);
     let n = (value % 65536 % 1025) as usize;
-    show_scans(&samples, n, byte(value / 16777216), byte(value / 65536));
+    show_scans(&samples, n, value / 16777216, value / 65536 % 256);
     b
 }
 

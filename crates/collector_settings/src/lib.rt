@@ -11,7 +11,7 @@ pub struct Settings {
     pub high: u8,
     pub jumpers: u8,
     pub range: u8,
-    pub clock: u8,
+    pub clock: u16,
     pub limit: u16,
 }
 
@@ -45,7 +45,7 @@ fn refuses_code(code: u8) -> bool
 fn range_refusal(s: Settings) -> u8
     ensures { λ r. ⌜ r ≡ refusal (rangeChecks s) ⌝ }
 {
-    if ranges::is_bad_range(s.low, s.high) {
+    if ranges::is_bad_range(s.low as u32, s.high as u32) {
         11
     } else if lacks(s.jumpers, s.low, s.high) {
         12

@@ -3,6 +3,7 @@
 use mathlib.Core.Path.{_≡_, refl}
 use mathlib.Core.Bool.{Bool, true, false, _&&_, _||_, not}
 use Prim.Native.Nat.{ℕ}
+use Rattle.base.specs.Flags.{on}
 use Rattle.base.specs.Choice.{if_then_else_}
 use Rattle.converter.specs.declared.channels.Converter.{Converter}
 use Rattle.converter.specs.Channels.{started, idle, triggerStarts, triggered, softwareTrigger, clockTrigger, endStarts, ended}
@@ -35,19 +36,19 @@ pub end-over : (c : Converter) → endStarts c ≡ false → ended c ≡ idle c
 end-over c h = rw h
 
 -- a conversion runs after a trigger if one ran or the trigger began it, and after an end if the end began it
-runs : (trigger running : Bool) (c : Converter) → c .converting ≡ running
-    → (if trigger && not running then started c else c) .converting ≡ running || trigger && not running
+runs : (trigger running : Bool) (c : Converter) → on (c .converting) ≡ running
+    → on ((if trigger && not running then started c else c) .converting) ≡ running || trigger && not running
 runs true true c e = e
 runs true false c e = refl
 runs false true c e = e
 runs false false c e = e
 
-pub trigger-runs : (c : Converter) (trigger : Bool) → triggered c trigger .converting ≡ c .converting || triggerStarts c trigger
-trigger-runs c trigger = runs trigger (c .converting) c refl
+pub trigger-runs : (c : Converter) (trigger : Bool) → on (triggered c trigger .converting) ≡ on (c .converting) || triggerStarts c trigger
+trigger-runs c trigger = runs trigger (on (c .converting)) c refl
 
-pub end-runs : (c : Converter) → ended c .converting ≡ endStarts c
+pub end-runs : (c : Converter) → on (ended c .converting) ≡ endStarts c
 end-runs c = by (endStarts c)
   where
-    by : (b : Bool) → (if b then started c else idle c) .converting ≡ b
+    by : (b : Bool) → on ((if b then started c else idle c) .converting) ≡ b
     by true = refl
     by false = refl

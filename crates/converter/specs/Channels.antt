@@ -3,6 +3,7 @@
 use mathlib.Core.Bool.{Bool, true, false, _&&_, _||_, not}
 use Prim.Native.Nat.{ℕ, _+_}
 use lib.Dec.{leb, eqb}
+use Rattle.base.specs.Flags.{on}
 use Rattle.base.specs.Choice.{if_then_else_}
 use Rattle.converter.specs.declared.channels.Converter.{Converter}
 
@@ -22,7 +23,7 @@ started c =
       high = c .high;
       selected = nextChannel (c .low) (c .high) (c .selected);
       channel = c .selected;
-      converting = true;
+      converting = 1;
       scanen = c .scanen;
       clken = c .clken;
     }
@@ -35,7 +36,7 @@ idle c =
       high = c .high;
       selected = c .selected;
       channel = c .channel;
-      converting = false;
+      converting = 0;
       scanen = c .scanen;
       clken = c .clken;
     }
@@ -43,28 +44,28 @@ idle c =
 -- whether a trigger, where there is one, starts a conversion: unless a conversion or scan runs. Between a scan's conversions there is no
 -- time, so a scan runs exactly while one of its conversions does
 abbrev pub triggerStarts : Converter → Bool → Bool
-triggerStarts c trigger = trigger && not (c .converting)
+triggerStarts c trigger = trigger && not (on (c .converting))
 
 abbrev pub triggered : Converter → Bool → Converter
 triggered c trigger = if triggerStarts c trigger then started c else c
 
 -- a write of 0 is a trigger, ignored while CLKEN=1
 abbrev pub softwareTrigger : Converter → Bool
-softwareTrigger c = not (c .clken)
+softwareTrigger c = not (on (c .clken))
 
 abbrev pub softwareTriggered : Converter → Converter
 softwareTriggered c = triggered c (softwareTrigger c)
 
 -- with CLKEN, triggers are falling OUT2 (CLKSEL=1) or falling DIN3 (0); GT12EN with DIN2=0 stops DIN3 triggers
 abbrev pub clockTrigger : Converter → Bool → Bool → Bool → Bool → Bool
-clockTrigger c clksel out2Falls din3Falls stopped = c .clken && (clksel && out2Falls || not clksel && din3Falls && not stopped)
+clockTrigger c clksel out2Falls din3Falls stopped = on (c .clken) && (clksel && out2Falls || not clksel && din3Falls && not stopped)
 
 abbrev pub clockTriggered : Converter → Bool → Bool → Bool → Bool → Converter
 clockTriggered c clksel out2Falls din3Falls stopped = triggered c (clockTrigger c clksel out2Falls din3Falls stopped)
 
 -- whether an end starts the next conversion: SCANEN is set at the end, and the channel just converted is not high as it then stands
 abbrev pub endStarts : Converter → Bool
-endStarts c = c .scanen && not (eqb (c .channel) (c .high))
+endStarts c = on (c .scanen) && not (eqb (c .channel) (c .high))
 
 -- otherwise the scan is over
 abbrev pub ended : Converter → Converter

@@ -52,7 +52,7 @@ channels-are zero c = refl
 channels-are (suc k) c = ap (λ (l : List ℕ). c .selected ∷ l) (channels-are k (started c))
 
 singles-are : (k low high selected channel : ℕ)
-    → singles k (record { low = low; high = high; selected = selected; channel = channel; converting = false; scanen = false; clken = false })
+    → singles k (record { low = low; high = high; selected = selected; channel = channel; converting = 0; scanen = 0; clken = 0 })
     ≡ selections low high selected k
 unfolding singles selections
 singles-are zero low high selected channel = refl
@@ -135,16 +135,13 @@ in-order c k w e =
     ∙ selected-in-order (c .low) (c .high) k (w .low) (w .high)
 
 -- single conversions started by software are such starts
-pub singles-start : (c : Converter) (k : ℕ) → c .converting ≡ false → c .scanen ≡ false → c .clken ≡ false → singles k c ≡ channels k c
+pub singles-start : (c : Converter) (k : ℕ) → c .converting ≡ 0 → c .scanen ≡ 0 → c .clken ≡ 0 → singles k c ≡ channels k c
 singles-start c k p q r = by (c .converting) (c .scanen) (c .clken) p q r ∙ sym (channels-are k c)
   where
-    by : (a b d : Bool) → a ≡ false → b ≡ false → d ≡ false
+    by : (a b d : ℕ) → a ≡ 0 → b ≡ 0 → d ≡ 0
         → singles k (record { low = c .low; high = c .high; selected = c .selected; channel = c .channel; converting = a; scanen = b; clken = d })
         ≡ selections (c .low) (c .high) (c .selected) k
-    by false false false p q r = singles-are k (c .low) (c .high) (c .selected) (c .channel)
-    by true b d p q r = absurd (let z : _≡_ {A = ℕ} 0 1 = cc in omega arith)
-    by false true d p q r = absurd (let z : _≡_ {A = ℕ} 0 1 = cc in omega arith)
-    by false false true p q r = absurd (let z : _≡_ {A = ℕ} 0 1 = cc in omega arith)
+    by a b d p q r = rw (p, q, r) (singles-are k (c .low) (c .high) (c .selected) (c .channel))
 
 -- the range ends at high
 ends-at : (high n s : ℕ) → s ≤ 31 → high ≤ 31 → ups s high ≡ n → getD (upFrom s (suc n)) n 0 ≡ high

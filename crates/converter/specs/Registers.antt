@@ -1,8 +1,8 @@
 -- What is written to and read from registers 2, 3, 7, 8 and 9, as far as it is the converter's (manual, chapter 6 and Base + 2, 3, 7 to 9;
 -- the specification, "Registers"). Bits without a name here are ignored and read 0.
-use mathlib.Core.Bool.{Bool, false}
 use Prim.Native.Nat.{ℕ, _+_, _%_}
-use Rattle.base.specs.Fields.{bit}
+use Rattle.base.specs.Flags.{on}
+use Rattle.base.specs.Fields.{field}
 use Rattle.base.specs.Weights.{weightOf}
 use Rattle.converter.specs.declared.channels.Converter.{Converter}
 
@@ -28,7 +28,7 @@ abbrev pub writtenHigh : Converter → ℕ → Converter
 writtenHigh c byte = withRange c (c .low) (byte % 32)
 
 -- the converter with these bits
-abbrev pub withBits : Converter → Bool → Bool → Converter
+abbrev pub withBits : Converter → ℕ → ℕ → Converter
 withBits c scanen clken =
     record {
       low = c .low;
@@ -42,16 +42,16 @@ withBits c scanen clken =
 
 -- 7: SCANEN, bit 2
 abbrev pub writtenScanen : Converter → ℕ → Converter
-writtenScanen c byte = withBits c (bit byte 4) (c .clken)
+writtenScanen c byte = withBits c (field byte 4 2) (c .clken)
 
 -- 9: CLKEN, bit 1
 abbrev pub writtenClken : Converter → ℕ → Converter
-writtenClken c byte = withBits c (c .scanen) (bit byte 2)
+writtenClken c byte = withBits c (c .scanen) (field byte 2 2)
 
 -- 8 read: STS, bit 7, and the selected channel, ADCH4-0
 abbrev pub statusBits : Converter → ℕ
-statusBits c = weightOf (c .converting) 128 + c .selected % 32
+statusBits c = weightOf (on (c .converting)) 128 + c .selected % 32
 
 -- fresh, and after RESETA or RESETD: all registers and the selected channel are zero, and no conversion runs
 abbrev pub freshConverter : Converter
-freshConverter = record { low = 0; high = 0; selected = 0; channel = 0; converting = false; scanen = false; clken = false }
+freshConverter = record { low = 0; high = 0; selected = 0; channel = 0; converting = 0; scanen = 0; clken = 0 }

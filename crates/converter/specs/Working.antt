@@ -18,10 +18,22 @@ pub record WorkingConverter (c : Converter) : Type 0 where
   pub high : c .high ≤ 31
   pub selected : c .selected ≤ 31
   pub channel : c .channel ≤ 31
+  -- its flags are 0 or 1
+  pub converting : c .converting ≤ 1
+  pub scanen : c .scanen ≤ 1
+  pub clken : c .clken ≤ 1
 
 -- the tests that the code makes
 abbrev pub converterTests : Converter → List Bool
-converterTests c = leb (c .low) 31 ∷ leb (c .high) 31 ∷ leb (c .selected) 31 ∷ leb (c .channel) 31 ∷ []
+converterTests c =
+    leb (c .low) 31
+    ∷ leb (c .high) 31
+    ∷ leb (c .selected) 31
+    ∷ leb (c .channel) 31
+    ∷ leb (c .converting) 1
+    ∷ leb (c .scanen) 1
+    ∷ leb (c .clken) 1
+    ∷ []
 
 abbrev pub isWorking : Converter → Bool
 isWorking c = all (converterTests c)
@@ -31,7 +43,7 @@ working-of c h = let e = each (converterTests c) h in omega (arith, leb-true)
 
 pub working-to : (c : Converter) → WorkingConverter c → isWorking c ≡ true
 working-to c w =
-    every (converterTests c) (le-leb _ _ (w .low), (le-leb _ _ (w .high), (le-leb _ _ (w .selected), (le-leb _ _ (w .channel), tt))))
+    every (converterTests c) (search (le-leb, arith))
 
 -- ---- what keeps it so
 pub next-in-range : (low high selected : ℕ) → low ≤ 31 → nextChannel low high selected ≤ 31

@@ -11,9 +11,9 @@ pub struct Converter {
     pub high: u8,
     pub selected: u8,
     pub channel: u8,
-    pub converting: bool,
-    pub scanen: bool,
-    pub clken: bool,
+    pub converting: u8,
+    pub scanen: u8,
+    pub clken: u8,
 }
 
 // The channel that is selected after `selected`: high goes to low, else one up, 31 to 0.
@@ -36,7 +36,7 @@ pub fn start(c: Converter) -> Converter
     let mut next = c;
     next.channel = c.selected;
     next.selected = next_channel(c.low, c.high, c.selected);
-    next.converting = true;
+    next.converting = 1;
     next
 }
 
@@ -44,7 +44,7 @@ pub fn start(c: Converter) -> Converter
 pub fn trigger(c: Converter, triggers: bool) -> Converter
     ensures { λ r. ⌜ r ≡ triggered c triggers ⌝ }
 {
-    if triggers & !c.converting {
+    if triggers & (c.converting != 1) {
         start(c)
     } else {
         c
@@ -55,25 +55,28 @@ pub fn trigger(c: Converter, triggers: bool) -> Converter
 pub fn software_trigger(c: Converter) -> Converter
     ensures { λ r. ⌜ r ≡ softwareTriggered c ⌝ }
 {
-    trigger(c, !c.clken)
+    trigger(c, c.clken != 1)
 }
 
 // The hardware clock: with CLKEN a fall of OUT2 (CLKSEL set) or of DIN3 (clear) is a trigger; `stopped` says that GT12EN is set with DIN2 low.
 pub fn clock_trigger(c: Converter, clksel: bool, out2: bool, din3: bool, stopped: bool) -> Converter
     ensures { λ r. ⌜ r ≡ clockTriggered c clksel out2 din3 stopped ⌝ }
 {
-    trigger(c, c.clken & ((clksel & out2) | (!clksel & din3 & !stopped)))
+    trigger(
+        c,
+        (c.clken == 1) & ((clksel & out2) | (!clksel & din3 & !stopped)),
+    )
 }
 
 // A conversion ends: with SCANEN, and a channel that is not the high one, the next of the scan starts; otherwise none runs.
 pub fn end(c: Converter) -> Converter
     ensures { λ r. ⌜ r ≡ ended c ⌝ }
 {
-    if c.scanen & (c.channel != c.high) {
+    if (c.scanen == 1) & (c.channel != c.high) {
         return start(c);
     }
     let mut next = c;
-    next.converting = false;
+    next.converting = 0;
     next
 }
 
@@ -81,7 +84,7 @@ pub fn end(c: Converter) -> Converter
 pub fn is_last(c: Converter) -> bool
     ensures { λ r. ⌜ r ≡ isLast c ⌝ }
 {
-    !(c.scanen & (c.channel != c.high))
+    !((c.scanen == 1) & (c.channel != c.high))
 }
 
 // A write of 2: the low channel, which becomes the selected one.
@@ -109,7 +112,7 @@ pub fn write_scanen(c: Converter, byte: u8) -> Converter
     ensures { λ r. ⌜ r ≡ writtenScanen c byte ⌝ }
 {
     let mut next = c;
-    next.scanen = byte / 4 % 2 == 1;
+    next.scanen = byte / 4 % 2;
     next
 }
 
@@ -118,7 +121,7 @@ pub fn write_clken(c: Converter, byte: u8) -> Converter
     ensures { λ r. ⌜ r ≡ writtenClken c byte ⌝ }
 {
     let mut next = c;
-    next.clken = byte / 2 % 2 == 1;
+    next.clken = byte / 2 % 2;
     next
 }
 
@@ -126,7 +129,7 @@ pub fn write_clken(c: Converter, byte: u8) -> Converter
 pub fn status_bits(c: Converter) -> u8
     ensures { λ r. ⌜ r ≡ statusBits c ⌝ }
 {
-    base::weight(c.converting, 128) + c.selected % 32
+    base::weight(c.converting == 1, 128) + c.selected % 32
 }
 
 // A fresh board's record, and any board's after RESETA or RESETD.
@@ -138,15 +141,21 @@ pub fn fresh_converter() -> Converter
         high: 0,
         selected: 0,
         channel: 0,
-        converting: false,
-        scanen: false,
-        clken: false,
+        converting: 0,
+        scanen: 0,
+        clken: 0,
     }
 }
 
-// Whether every channel is one of the 32.
+// Whether every channel is one of the 32, and every flag 0 or 1.
 pub fn is_working(c: Converter) -> bool
     ensures { λ r. ⌜ r ≡ isWorking c ⌝ }
 {
-    (c.low <= 31) & (c.high <= 31) & (c.selected <= 31) & (c.channel <= 31)
+    (c.low <= 31)
+        & (c.high <= 31)
+        & (c.selected <= 31)
+        & (c.channel <= 31)
+        & (c.converting <= 1)
+        & (c.scanen <= 1)
+        & (c.clken <= 1)
 }

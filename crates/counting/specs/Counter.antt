@@ -3,6 +3,7 @@
 use Prim.Native.Nat.{ℕ, _%_}
 use mathlib.Core.Bool.{Bool, true, false, not, _&&_, _||_}
 use lib.Dec.{eqb}
+use Rattle.base.specs.Flags.{on, flag}
 use Rattle.base.specs.Choice.{if_then_else_}
 use Rattle.counting_modes.specs.Modes.{triggerLoads, fromTwo}
 use Rattle.counting_modes.specs.Control.{command, setupOf}
@@ -22,14 +23,14 @@ use Rattle.counting.specs.declared.CounterRead.{CounterRead}
 abbrev pub unprogrammed : Counter
 unprogrammed = record {
   control = 0;
-  trigger = false;
-  count = record { register = 0; element = 0; out = true; waiting = false; loaded = false };
+  trigger = 0;
+  count = record { register = 0; element = 0; out = 1; waiting = 0; loaded = 0 };
   bus = noBytes;
 }
 
 -- ---- a control word w: "all Control Logic is immediately reset", so nothing of the counter before it is left
 abbrev pub programmed : ℕ → Mode → Counter
-programmed w m = record { control = w % 64; trigger = false; count = firstCount m; bus = noBytes }
+programmed w m = record { control = w % 64; trigger = 0; count = firstCount m; bus = noBytes }
 
 -- ---- the latch command
 abbrev pub latchedAs : Setup → Counter → Counter
@@ -55,8 +56,8 @@ abbrev pub pulsedAs : Setup → Counter → Bool → Counter
 pulsedAs Unprogrammed c gate = c
 pulsedAs (Programmed f m) c gate = record {
   control = c .control;
-  trigger = false;
-  count = pulseTaken m gate (c .trigger) (c .bus .halfwritten) (c .count);
+  trigger = 0;
+  count = pulseTaken m gate (on (c .trigger)) (on (c .bus .halfwritten)) (c .count);
   bus = c .bus;
 }
 
@@ -68,7 +69,7 @@ abbrev pub gateMovedAs : Setup → Counter → Bool → Bool → Counter
 gateMovedAs Unprogrammed c was is = c
 gateMovedAs (Programmed f m) c was is = record {
   control = c .control;
-  trigger = c .trigger || triggerLoads m && (not was && is);
+  trigger = flag (on (c .trigger) || triggerLoads m && (not was && is));
   count = gateSeen m was is (c .count);
   bus = c .bus;
 }
@@ -80,7 +81,7 @@ gateMoved c was is = gateMovedAs (setupOf (c .control)) c was is
 abbrev pub counterReadAs : Setup → Counter → CounterRead
 counterReadAs Unprogrammed c = record { byte = 0; counter = c }
 counterReadAs (Programmed f m) c = record {
-  byte = byteShown f (c .bus .halfread) (shown (c .bus) (c .count .element));
+  byte = byteShown f (on (c .bus .halfread)) (shown (c .bus) (c .count .element));
   counter = record { control = c .control; trigger = c .trigger; count = c .count; bus = bytesRead f (c .bus) };
 }
 

@@ -5,14 +5,17 @@ use mathlib.Core.Bool.{Bool, true, false}
 use native.Mathlib.Omega.{arith}
 use borrow.Author.Tests.{eqb-false}
 use lib.Dec.{eqb}
+use Rattle.base.specs.Flags.{on, flag-le}
 use Rattle.base.specs.Laws.{by-choice, by-test, under-and}
 use Rattle.counting_modes.specs.Modes.{fromTwo}
 use Rattle.counting_modes.specs.Control.{command, setupOf}
 use Rattle.counting_element.specs.Element.{pieceTaken, pulseLoads, pulseCounts, pulseTaken, countedBy}
+use Rattle.counting_element.specs.Working.{first-works, piece-works, gate-works, pulse-works}
 use Rattle.counting_bytes.specs.Bytes.{pieceOf}
+use Rattle.counting_bytes.specs.Working.{none-works, after-works, read-works, latch-works}
 use Rattle.counting.specs.Counter.{unprogrammed, programmed, latchedAs, commandedBy, commanded, pulsedAs, pulsed, gateMovedAs, gateMoved}
 use Rattle.counting.specs.Counter.{counterReadAs, counterRead, pieceRefused, pieceWritten, byteWrittenAs, byteWritten}
-use Rattle.counting.specs.Working.{Facts, Working}
+use Rattle.counting.specs.Working.{Flags, Facts, Working}
 use Rattle.counting_modes.specs.declared.Mode.{Mode}
 use Rattle.counting_modes.specs.declared.Mode.the-variants.{TerminalCount, RateGenerator}
 use Rattle.counting_modes.specs.declared.Format.{Format}
@@ -26,8 +29,8 @@ use Rattle.counting_element.specs.declared.Count.{Count}
 use Rattle.counting.specs.declared.Counter.{Counter}
 
 -- what keeps the six control bits is judged by the same set-up
-same-setup : (c d : Counter) {s : Setup} → setupOf (c .control) ≡ s → d .control ≡ c .control → Facts s d → Working d
-same-setup c d e f w = record { facts = subst⁻¹ (λ (x : Setup). Facts x d) (ap setupOf f ∙ e) w }
+same-setup : (c d : Counter) {s : Setup} → setupOf (c .control) ≡ s → d .control ≡ c .control → Flags d → Facts s d → Working d
+same-setup c d e f k w = record { flags = k; facts = subst⁻¹ (λ (x : Setup). Facts x d) (ap setupOf f ∙ e) w }
 
 facts-at : (c : Counter) {s : Setup} → setupOf (c .control) ≡ s → Working c → Facts s c
 facts-at c e w = rw e at (w .facts)
@@ -35,7 +38,7 @@ facts-at c e w = rw e at (w .facts)
 -- ---- the fresh counter, and a control word
 pub unprogrammed-working : Working unprogrammed
 unfolding setupOf command
-unprogrammed-working = record { facts = (refl, refl) }
+unprogrammed-working = record { flags = omega arith; facts = (refl, refl) }
 
 -- the six bits below SC are those of the whole control word
 rw-mod : (w : ℕ) → w % 64 / 16 % 4 ≡ w / 16 % 4
@@ -58,6 +61,7 @@ setup-programmed w f m e = rw (command-mod w, e)
 programmed-working : (w : ℕ) (f : Format) (m : Mode) → command w ≡ Program f m → Working (programmed w m)
 programmed-working w f m e =
     record {
+      flags = record { trigger = omega arith; count = first-works m; bus = none-works };
       facts = subst⁻¹ (λ (x : Setup). Facts x (programmed w m)) (setup-programmed w f m e) (omega arith, λ t o. omega arith);
     }
 
@@ -66,7 +70,10 @@ latched-working c w = go (setupOf (c .control)) refl
   where
     go : (s : Setup) → setupOf (c .control) ≡ s → Working (latchedAs s c)
     go Unprogrammed e = w
-    go (Programmed f m) e = same-setup c (latchedAs (Programmed f m) c) e refl (facts-at c e w)
+    go (Programmed f m) e =
+        same-setup c (latchedAs (Programmed f m) c) e refl
+        (record { trigger = w .flags .trigger; count = w .flags .count; bus = latch-works _ _ (w .flags .bus) })
+        (facts-at c e w)
 
 pub commanded-working : (c : Counter) (w : ℕ) → Working c → Working (commanded c w)
 unfolding commanded
@@ -97,7 +104,12 @@ pulsed-working c gate w = go (setupOf (c .control)) refl
     go (Programmed f m) e =
         let a = facts-at c e w in
         same-setup c (pulsedAs (Programmed f m) c gate) e refl
-        (a .0, λ t o. a .1 t (sym (register-pulsed m gate (c .trigger) (c .bus .halfwritten) (c .count)) ∙ o))
+        (record {
+          trigger = omega arith;
+          count = pulse-works m gate (on (c .trigger)) (on (c .bus .halfwritten)) (c .count) (w .flags .count);
+          bus = w .flags .bus;
+        })
+        (a .0, λ t o. a .1 t (sym (register-pulsed m gate (on (c .trigger)) (on (c .bus .halfwritten)) (c .count)) ∙ o))
 
 pub gate-working : (c : Counter) (was is : Bool) → Working c → Working (gateMoved c was is)
 unfolding gateMoved
@@ -105,7 +117,10 @@ gate-working c was is w = go (setupOf (c .control)) refl
   where
     go : (s : Setup) → setupOf (c .control) ≡ s → Working (gateMovedAs s c was is)
     go Unprogrammed e = w
-    go (Programmed f m) e = same-setup c (gateMovedAs (Programmed f m) c was is) e refl (facts-at c e w)
+    go (Programmed f m) e =
+        same-setup c (gateMovedAs (Programmed f m) c was is) e refl
+        (record { trigger = search flag-le; count = gate-works m was is (c .count) (w .flags .count); bus = w .flags .bus })
+        (facts-at c e w)
 
 pub read-working : (c : Counter) → Working c → Working (counterRead c .counter)
 unfolding counterRead
@@ -113,7 +128,10 @@ read-working c w = go (setupOf (c .control)) refl
   where
     go : (s : Setup) → setupOf (c .control) ≡ s → Working (counterReadAs s c .counter)
     go Unprogrammed e = w
-    go (Programmed f m) e = same-setup c (counterReadAs (Programmed f m) c .counter) e refl (facts-at c e w)
+    go (Programmed f m) e =
+        same-setup c (counterReadAs (Programmed f m) c .counter) e refl
+        (record { trigger = w .flags .trigger; count = w .flags .count; bus = read-works f (c .bus) (w .flags .bus) })
+        (facts-at c e w)
 
 -- ---- a written count is not 1 in mode 2
 not-one : (m : Mode) (k : Count) (q : Piece) → pieceRefused m q ≡ false → (fromTwo m ≡ true → k .register ≡ 1 → ⊥) →
@@ -131,4 +149,6 @@ written-working c b w = go (setupOf (c .control)) refl
         let q = pieceOf f (c .bus) b in
         let a = facts-at c e w in
         by-test Working (pieceRefused m q) {x = c} {y = pieceWritten m c q} (λ t. w)
-        (λ t. same-setup c (pieceWritten m c q) e refl (a .0, not-one m (c .count) q t (a .1)))
+        (λ t. same-setup c (pieceWritten m c q) e refl
+        (record { trigger = w .flags .trigger; count = piece-works m (c .count) q (w .flags .count); bus = after-works (c .bus) q (w .flags .bus) })
+        (a .0, not-one m (c .count) q t (a .1)))

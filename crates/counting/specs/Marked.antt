@@ -3,6 +3,7 @@ use Prim.Native.Nat.{ℕ}
 use mathlib.Core.Path.{_≡_, refl}
 use mathlib.Core.Bool.{Bool, true, false}
 use mathlib.Core.List.{List, [], _∷_}
+use Rattle.base.specs.Flags.{on}
 use Rattle.counting_modes.specs.Control.{command, setupOf}
 use Rattle.counting_element.specs.Element.{countedBy}
 use Rattle.counting.specs.Counter.{unprogrammed, commanded, byteWritten, pulsed}
@@ -19,7 +20,7 @@ after c (gate ∷ gates) = after (pulsed c gate) gates
 
 abbrev pub outs : Counter → List Bool → List Bool
 outs c [] = []
-outs c (gate ∷ gates) = pulsed c gate .count .out ∷ outs (pulsed c gate) gates
+outs c (gate ∷ gates) = on (pulsed c gate .count .out) ∷ outs (pulsed c gate) gates
 
 -- case 9: mode 2 (control word 14), count 3: H H L H H L
 pub case-9 : outs (started 0x14 3) (true ∷ true ∷ true ∷ true ∷ true ∷ true ∷ [])

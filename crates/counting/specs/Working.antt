@@ -1,30 +1,43 @@
 -- A working board's counter. The specification, "What is delivered": "Every register, channel, port, counter and divider is within its
 -- width or range ...; no mode 2 counter has 1 to load, and an unprogrammed counter's OUT is high."
-use Prim.Native.Nat.{_<_}
+use Prim.Native.Nat.{_<_, _≤_}
 use mathlib.Core.Path.{_≡_, refl, sym}
 use mathlib.Core.Bool.{Bool, true, false, not, _&&_}
 use mathlib.Core.List.{List, [], _∷_}
-use borrow.Author.Tests.{eqb-true, eqb-false, eq-eqb, ne-eqb, ltb-true, lt-ltb}
-use lib.Dec.{eqb, ltb}
+use borrow.Author.Tests.{eqb-true, eqb-false, eq-eqb, ne-eqb, ltb-true, lt-ltb, leb-true, le-leb}
+use lib.Dec.{eqb, ltb, leb}
+use Rattle.base.specs.Flags.{on}
 use Rattle.base.specs.Tests.{all, each, every}
 use Rattle.counting_modes.specs.Modes.{fromTwo}
 use Rattle.counting_modes.specs.Control.{setupOf}
 use Rattle.counting_modes.specs.declared.Setup.{Setup}
 use Rattle.counting_modes.specs.declared.Setup.the-variants.{Unprogrammed, Programmed}
+use Rattle.counting_element.specs.Working.{WorkingCount, countWorks, count-of, count-to}
+use Rattle.counting_bytes.specs.Working.{WorkingBus, busWorks, bus-of, bus-to}
 use Rattle.counting.specs.declared.Counter.{Counter}
 
 -- the facts, by what the six control bits set up: 0 or a control word that programs a counter
 abbrev pub Facts : Setup → Counter → Type 0
-Facts Unprogrammed c = (c .control ≡ 0) × (c .count .out ≡ true)
+Facts Unprogrammed c = (c .control ≡ 0) × (on (c .count .out) ≡ true)
 Facts (Programmed f m) c = (c .control < 64) × (fromTwo m ≡ true → c .count .register ≡ 1 → ⊥)
 
+-- every flag is 0 or 1
+pub record Flags (c : Counter) : Type 0 where
+  pub trigger : c .trigger ≤ 1
+  pub count : WorkingCount (c .count)
+  pub bus : WorkingBus (c .bus)
+
 pub record Working (c : Counter) : Type 0 where
+  pub flags : Flags c
   pub facts : Facts (setupOf (c .control)) c
 
 -- the test that the code makes
+abbrev pub flagTests : Counter → List Bool
+flagTests c = leb (c .trigger) 1 ∷ countWorks (c .count) ∷ busWorks (c .bus) ∷ []
+
 abbrev pub tests : Setup → Counter → List Bool
-tests Unprogrammed c = eqb (c .control) 0 ∷ c .count .out ∷ []
-tests (Programmed f m) c = ltb (c .control) 64 ∷ not (fromTwo m && eqb (c .count .register) 1) ∷ []
+tests Unprogrammed c = all (flagTests c) ∷ eqb (c .control) 0 ∷ on (c .count .out) ∷ []
+tests (Programmed f m) c = all (flagTests c) ∷ ltb (c .control) 64 ∷ not (fromTwo m && eqb (c .count .register) 1) ∷ []
 
 abbrev pub working : Counter → Bool
 working c = all (tests (setupOf (c .control)) c)
@@ -39,20 +52,28 @@ both-not : (a b : Bool) → (a ≡ true → b ≡ false) → not (a && b) ≡ tr
 both-not true b h = rw (h refl)
 both-not false b h = refl
 
-facts-of : (s : Setup) (c : Counter) → all (tests s c) ≡ true → Facts s c
-facts-of Unprogrammed c h = let e = each (tests Unprogrammed c) h in (eqb-true _ _ (e .0), e .1 .0)
+flags-of : (c : Counter) → all (flagTests c) ≡ true → Flags c
+flags-of c h =
+    let e = each (flagTests c) h in
+    record { trigger = leb-true _ _ (e .0); count = count-of _ (e .1 .0); bus = bus-of _ (e .1 .1 .0) }
+
+flags-to : (c : Counter) → Flags c → all (flagTests c) ≡ true
+flags-to c w = every (flagTests c) (le-leb _ _ (w .trigger), (count-to _ (w .count), (bus-to _ (w .bus), tt)))
+
+facts-of : (s : Setup) (c : Counter) → all (tests s c) ≡ true → Flags c × Facts s c
+facts-of Unprogrammed c h = let e = each (tests Unprogrammed c) h in (flags-of c (e .0), (eqb-true _ _ (e .1 .0), e .1 .1 .0))
 facts-of (Programmed f m) c h =
     let e = each (tests (Programmed f m) c) h in
-    (ltb-true _ _ (e .0), λ t. eqb-false _ _ (not-both (fromTwo m) (eqb (c .count .register) 1) (e .1 .0) t))
+    (flags-of c (e .0), (ltb-true _ _ (e .1 .0), λ t. eqb-false _ _ (not-both (fromTwo m) (eqb (c .count .register) 1) (e .1 .1 .0) t)))
 
-facts-to : (s : Setup) (c : Counter) → Facts s c → all (tests s c) ≡ true
-facts-to Unprogrammed c w = every (tests Unprogrammed c) (eq-eqb _ _ (w .0), (w .1, tt))
-facts-to (Programmed f m) c w =
+facts-to : (s : Setup) (c : Counter) → Flags c → Facts s c → all (tests s c) ≡ true
+facts-to Unprogrammed c k w = every (tests Unprogrammed c) (flags-to c k, (eq-eqb _ _ (w .0), (w .1, tt)))
+facts-to (Programmed f m) c k w =
     every (tests (Programmed f m) c)
-    (lt-ltb _ _ (w .0), (both-not (fromTwo m) (eqb (c .count .register) 1) (λ t. ne-eqb _ _ (w .1 t)), tt))
+    (flags-to c k, (lt-ltb _ _ (w .0), (both-not (fromTwo m) (eqb (c .count .register) 1) (λ t. ne-eqb _ _ (w .1 t)), tt)))
 
 pub working-of : (c : Counter) → working c ≡ true → Working c
-working-of c h = record { facts = facts-of (setupOf (c .control)) c h }
+working-of c h = let f = facts-of (setupOf (c .control)) c h in record { flags = f .0; facts = f .1 }
 
 pub working-to : (c : Counter) → Working c → working c ≡ true
-working-to c w = facts-to (setupOf (c .control)) c (w .facts)
+working-to c w = facts-to (setupOf (c .control)) c (w .flags) (w .facts)

@@ -19,7 +19,7 @@ pub struct Counter {
     // the control word's six bits below SC as written; 0: unprogrammed
     pub control: u8,
     // the flip-flop that a rising GATE sets
-    pub trigger: bool,
+    pub trigger: u8,
     pub count: Count,
     pub bus: Bus,
 }
@@ -36,13 +36,13 @@ pub fn new() -> Counter
 {
     Counter {
         control: 0,
-        trigger: false,
+        trigger: 0,
         count: Count {
             register: 0,
             element: 0,
-            out: true,
-            waiting: false,
-            loaded: false,
+            out: 1,
+            waiting: 0,
+            loaded: 0,
         },
         bus: counting_bytes::none(),
     }
@@ -53,7 +53,7 @@ fn program(word: u8, m: Mode) -> Counter
 {
     Counter {
         control: word % 64,
-        trigger: false,
+        trigger: 0,
         count: counting_element::first_count(m),
         bus: counting_bytes::none(),
     }
@@ -93,8 +93,14 @@ pub fn pulse(c: Counter, gate: bool) -> Counter
         Setup::Programmed(_, m) => {
             let k = c.count;
             let mut d = c;
-            d.count = counting_element::take_pulse(m, gate, c.trigger, c.bus.halfwritten, k);
-            d.trigger = false;
+            d.count = counting_element::take_pulse(
+                m,
+                gate,
+                c.trigger == 1,
+                c.bus.halfwritten == 1,
+                k,
+            );
+            d.trigger = 0;
             d
         }
     }
@@ -108,10 +114,10 @@ pub fn move_gate(c: Counter, was: bool, is: bool) -> Counter
         Setup::Unprogrammed => c,
         Setup::Programmed(_, m) => {
             let k = c.count;
-            let trigger = c.trigger | tables::trigger_loads(m) & (!was & is);
+            let trigger = (c.trigger == 1) | tables::trigger_loads(m) & (!was & is);
             let mut d = c;
             d.count = counting_element::see_gate(m, was, is, k);
-            d.trigger = trigger;
+            d.trigger = trigger as u8;
             d
         }
     }
@@ -133,7 +139,7 @@ pub fn read(c: Counter) -> CounterRead
             CounterRead {
                 byte: counting_bytes::byte_shown(
                     f,
-                    s.halfread,
+                    s.halfread == 1,
                     counting_bytes::shown_count(s, c.count.element),
                 ),
                 counter: d,
@@ -202,9 +208,13 @@ pub fn write_byte(c: Counter, byte: u8) -> Counter
 pub fn is_working(c: Counter) -> bool
     ensures { λ r. ⌜ r ≡ working c ⌝ }
 {
+    let k = c.count;
+    let s = c.bus;
+    let flags = (c.trigger <= 1) & counting_element::is_working(k) & counting_bytes::is_working(s);
     match control::setup_of(c.control) {
-        Setup::Unprogrammed => (c.control == 0) & c.count.out,
-        Setup::Programmed(_, m) => (c.control < 64)
+        Setup::Unprogrammed => flags & (c.control == 0) & (c.count.out == 1),
+        Setup::Programmed(_, m) => flags
+            & (c.control < 64)
             & !(tables::from_two(m) & (c.count.register == 1)),
     }
 }

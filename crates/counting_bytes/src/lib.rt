@@ -2,6 +2,7 @@
 use counting_modes::Format;
 ghost use mathlib.Core.Path.{_≡_};
 ghost use Rattle.counting_bytes.specs.Bytes.{noBytes, pieceOf, bytesAfter, shown, byteShown, readDone, readHalf, bytesRead, latchTaken};
+ghost use Rattle.counting_bytes.specs.Working.{busWorks};
 
 // A written byte: the first of two, or what makes a whole count.
 pub enum Piece {
@@ -13,12 +14,12 @@ pub enum Piece {
 #[repr(C)]
 pub struct Bus {
     pub latch: u16,
-    pub latched: bool,
+    pub latched: u8,
     // the next byte that is read is the most significant one of two
-    pub halfread: bool,
+    pub halfread: u8,
     // the least significant byte of two that was written
     pub first: u8,
-    pub halfwritten: bool,
+    pub halfwritten: u8,
 }
 
 // No latch, nothing half-written, nothing half-read.
@@ -27,10 +28,10 @@ pub fn none() -> Bus
 {
     Bus {
         latch: 0,
-        latched: false,
-        halfread: false,
+        latched: 0,
+        halfread: 0,
         first: 0,
-        halfwritten: false,
+        halfwritten: 0,
     }
 }
 
@@ -42,7 +43,8 @@ pub fn piece_of(f: Format, s: Bus, byte: u8) -> Piece
         Format::LeastByte => Piece::Whole(byte as u16),
         Format::MostByte => Piece::Whole((byte as u16) * 256),
         Format::TwoBytes => {
-            if s.halfwritten {
+            let halfwritten = s.halfwritten == 1;
+            if halfwritten {
                 Piece::Whole((s.first as u16) + (byte as u16) * 256)
             } else {
                 Piece::First(byte)
@@ -58,12 +60,12 @@ pub fn after_write(s: Bus, q: Piece) -> Bus
     match q {
         Piece::First(b) => {
             t.first = b;
-            t.halfwritten = true;
+            t.halfwritten = 1;
             t
         }
         Piece::Whole(_) => {
             t.first = 0;
-            t.halfwritten = false;
+            t.halfwritten = 0;
             t
         }
     }
@@ -73,7 +75,8 @@ pub fn after_write(s: Bus, q: Piece) -> Bus
 pub fn shown_count(s: Bus, v: u16) -> u16
     ensures { λ r. ⌜ r ≡ shown s v ⌝ }
 {
-    if s.latched { s.latch } else { v }
+    let latched = s.latched == 1;
+    if latched { s.latch } else { v }
 }
 
 pub fn byte_shown(f: Format, half: bool, v: u16) -> u8
@@ -93,8 +96,8 @@ fn read_done(s: Bus) -> Bus
 {
     let mut t = s;
     t.latch = 0;
-    t.latched = false;
-    t.halfread = false;
+    t.latched = 0;
+    t.halfread = 0;
     t
 }
 
@@ -102,7 +105,7 @@ fn read_half(s: Bus) -> Bus
     ensures { λ r. ⌜ r ≡ readHalf s ⌝ }
 {
     let mut t = s;
-    t.halfread = true;
+    t.halfread = 1;
     t
 }
 
@@ -114,11 +117,8 @@ pub fn after_read(f: Format, s: Bus) -> Bus
         Format::LeastByte => read_done(s),
         Format::MostByte => read_done(s),
         Format::TwoBytes => {
-            if s.halfread {
-                read_done(s)
-            } else {
-                read_half(s)
-            }
+            let halfread = s.halfread == 1;
+            if halfread { read_done(s) } else { read_half(s) }
         }
     }
 }
@@ -128,11 +128,19 @@ pub fn take_latch(s: Bus, v: u16) -> Bus
     ensures { λ r. ⌜ r ≡ latchTaken s v ⌝ }
 {
     let mut t = s;
-    if s.latched {
+    let latched = s.latched == 1;
+    if latched {
         s
     } else {
         t.latch = v;
-        t.latched = true;
+        t.latched = 1;
         t
     }
+}
+
+// Whether every flag is 0 or 1.
+pub fn is_working(s: Bus) -> bool
+    ensures { λ r. ⌜ r ≡ busWorks s ⌝ }
+{
+    (s.latched <= 1) & (s.halfread <= 1) & (s.halfwritten <= 1)
 }

@@ -5,17 +5,18 @@ use counting_modes::tables;
 ghost use mathlib.Core.Path.{_≡_};
 ghost use Rattle.counting_element.specs.Element.{down, load, countedTerminal, countedRate, countedBy, firstCount, pieceTaken, gateSeen};
 ghost use Rattle.counting_element.specs.Element.{pulseLoads, pulseCounts, pulseTaken};
+ghost use Rattle.counting_element.specs.Working.{countWorks};
 
 // The count register CR, the counting element CE and OUT.
 #[repr(C)]
 pub struct Count {
     pub register: u16,
     pub element: u16,
-    pub out: bool,
+    pub out: u8,
     // a whole count is to be loaded on the next CLK pulse
-    pub waiting: bool,
-    // a count was loaded since the control word
-    pub loaded: bool,
+    pub waiting: u8,
+    // a count was loaded since the control word; wide enough that the record has no padding
+    pub loaded: u16,
 }
 
 // One less; 65,535 after 0.
@@ -31,9 +32,9 @@ fn load_count(k: Count, out: bool) -> Count
     Count {
         register: k.register,
         element: k.register,
-        out: out,
-        waiting: false,
-        loaded: true,
+        out: out as u8,
+        waiting: 0,
+        loaded: 1,
     }
 }
 
@@ -43,7 +44,7 @@ fn count_terminal(k: Count) -> Count
     let v = one_less(k.element);
     let mut n = k;
     n.element = v;
-    n.out = k.out | (v == 0);
+    n.out = ((k.out == 1) | (v == 0)) as u8;
     n
 }
 
@@ -56,7 +57,7 @@ fn count_rate(k: Count) -> Count
         let v = one_less(k.element);
         let mut n = k;
         n.element = v;
-        n.out = !(v == 1);
+        n.out = (!(v == 1)) as u8;
         n
     }
 }
@@ -77,9 +78,9 @@ pub fn first_count(m: Mode) -> Count
     Count {
         register: 0,
         element: 0,
-        out: tables::first_out(m),
-        waiting: false,
-        loaded: false,
+        out: tables::first_out(m) as u8,
+        waiting: 0,
+        loaded: 0,
     }
 }
 
@@ -87,15 +88,15 @@ pub fn first_count(m: Mode) -> Count
 pub fn take_piece(m: Mode, k: Count, q: Piece) -> Count
     ensures { λ r. ⌜ r ≡ pieceTaken m k q ⌝ }
 {
-    let out = k.out & !tables::byte_stops(m);
-    let waiting = tables::loads_at_once(m) | !k.loaded;
+    let out = (k.out == 1) & !tables::byte_stops(m);
+    let waiting = tables::loads_at_once(m) | (k.loaded != 1);
     let mut n = k;
-    n.out = out;
+    n.out = out as u8;
     match q {
         Piece::First(_) => n,
         Piece::Whole(w) => {
             n.register = w;
-            n.waiting = waiting;
+            n.waiting = waiting as u8;
             n
         }
     }
@@ -105,22 +106,22 @@ pub fn take_piece(m: Mode, k: Count, q: Piece) -> Count
 pub fn see_gate(m: Mode, was: bool, is: bool, k: Count) -> Count
     ensures { λ r. ⌜ r ≡ gateSeen m was is k ⌝ }
 {
-    let out = k.out | tables::gate_raises(m) & (was & !is);
+    let out = (k.out == 1) | tables::gate_raises(m) & (was & !is);
     let mut n = k;
-    n.out = out;
+    n.out = out as u8;
     n
 }
 
 fn loads_on_pulse(m: Mode, trigger: bool, k: Count) -> bool
     ensures { λ r. ⌜ r ≡ pulseLoads m trigger k ⌝ }
 {
-    k.waiting | k.loaded & (tables::trigger_loads(m) & trigger)
+    (k.waiting == 1) | (k.loaded == 1) & (tables::trigger_loads(m) & trigger)
 }
 
 fn counts_on_pulse(m: Mode, gate: bool, half: bool, k: Count) -> bool
     ensures { λ r. ⌜ r ≡ pulseCounts m gate half k ⌝ }
 {
-    k.loaded & (gate & !(half & tables::byte_stops(m)))
+    (k.loaded == 1) & (gate & !(half & tables::byte_stops(m)))
 }
 
 // A CLK pulse loads, counts or does nothing.
@@ -134,4 +135,11 @@ pub fn take_pulse(m: Mode, gate: bool, trigger: bool, half: bool, k: Count) -> C
     } else {
         k
     }
+}
+
+// Whether every flag is 0 or 1.
+pub fn is_working(k: Count) -> bool
+    ensures { λ r. ⌜ r ≡ countWorks k ⌝ }
+{
+    (k.out <= 1) & (k.waiting <= 1) & (k.loaded <= 1)
 }

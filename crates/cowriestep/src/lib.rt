@@ -16,7 +16,7 @@ pub extern "C" fn dmm32_write_byte(
     board: &mut Board,
     memory: &mut [u16],
     eeprom: &mut [u8],
-    offset: u8,
+    offset: u32,
     value: u8,
 ) -> u32
     ensures { λ r. ⌜ Stepped answerNumber (now (board .entry)) (now (memory .entry)) (now (eeprom .entry)) (Event.WriteByte offset value) r (now (board .exit)) (now (memory .exit)) (now (eeprom .exit)) ⌝ }
@@ -32,7 +32,7 @@ pub extern "C" fn dmm32_read_byte(
     board: &mut Board,
     memory: &mut [u16],
     eeprom: &mut [u8],
-    offset: u8,
+    offset: u32,
 ) -> u32
     ensures { λ r. ⌜ Stepped answerNumber (now (board .entry)) (now (memory .entry)) (now (eeprom .entry)) (Event.ReadByte offset) r (now (board .exit)) (now (memory .exit)) (now (eeprom .exit)) ⌝ }
 {
@@ -47,7 +47,7 @@ pub extern "C" fn dmm32_read_word(
     board: &mut Board,
     memory: &mut [u16],
     eeprom: &mut [u8],
-    offset: u8,
+    offset: u32,
 ) -> u32
     ensures { λ r. ⌜ Stepped answerNumber (now (board .entry)) (now (memory .entry)) (now (eeprom .entry)) (Event.ReadWord offset) r (now (board .exit)) (now (memory .exit)) (now (eeprom .exit)) ⌝ }
 {
@@ -77,7 +77,7 @@ pub extern "C" fn dmm32_din(
     board: &mut Board,
     memory: &mut [u16],
     eeprom: &mut [u8],
-    lines: u8,
+    lines: u32,
 ) -> u32
     ensures { λ r. ⌜ Stepped answerNumber (now (board .entry)) (now (memory .entry)) (now (eeprom .entry)) (Event.DinPins (record { lines = lines })) r (now (board .exit)) (now (memory .exit)) (now (eeprom .exit)) ⌝ }
 {
@@ -86,17 +86,17 @@ pub extern "C" fn dmm32_din(
     out.number
 }
 
-// The Latch pin takes a level.
+// The Latch pin takes a level: 0 is low, any other number high.
 #[no_mangle]
 pub extern "C" fn dmm32_latch(
     board: &mut Board,
     memory: &mut [u16],
     eeprom: &mut [u8],
-    high: bool,
+    level: u32,
 ) -> u32
-    ensures { λ r. ⌜ Stepped answerNumber (now (board .entry)) (now (memory .entry)) (now (eeprom .entry)) (Event.LatchLevel high) r (now (board .exit)) (now (memory .exit)) (now (eeprom .exit)) ⌝ }
+    ensures { λ r. ⌜ Stepped answerNumber (now (board .entry)) (now (memory .entry)) (now (eeprom .entry)) (Event.LatchLevel level) r (now (board .exit)) (now (memory .exit)) (now (eeprom .exit)) ⌝ }
 {
-    let out = numbers::stepped(*board, memory, eeprom, Event::LatchLevel { high });
+    let out = numbers::stepped(*board, memory, eeprom, Event::LatchLevel { level });
     *board = out.board;
     out.number
 }

@@ -19,9 +19,9 @@ ghost use Rattle.numbers.specs.Packed.{answerNumber};
 ghost use Rattle.numbers.specs.Boards.{freshOf};
 ghost use Rattle.numbers.specs.Collecting.{startAnswer, accessNamed, takenAnswer};
 
-// A fresh board's record, for jumpers 0 to 3; any other number stays in the record, which is then no working board's.
+// A fresh board's record, for jumpers 0 to 3; any other number makes a record that is no working board's. Zero scale: 0 is no.
 #[no_mangle]
-pub extern "C" fn dmm32_fresh(jumpers: u8, zero_scale: bool) -> Board
+pub extern "C" fn dmm32_fresh(jumpers: u32, zero_scale: u32) -> Board
     ensures { λ r. ⌜ r ≡ freshOf jumpers «zero_scale» ⌝ }
 {
     numbers::fresh(jumpers, zero_scale)
@@ -79,7 +79,7 @@ pub extern "C" fn dmm32_collector_take(c: Collector, answer: BusAnswer) -> Taken
 
 // How many of the samples, from the front, are the part that holds whole scans.
 #[no_mangle]
-pub extern "C" fn dmm32_whole_scans(samples: &[i16], low: u8, high: u8) -> usize
+pub extern "C" fn dmm32_whole_scans(samples: &[i16], low: u32, high: u32) -> usize
     ensures { λ r. ⌜ r ≡ length (wholeScans (now (samples .entry)) low high) ⌝ }
 {
     numbers::collecting::whole_length(samples, low, high)

@@ -1,18 +1,18 @@
 // What can happen to a board, and what it answers (the specification, "What is delivered").
 pub use ports::Port;
 
-// The levels of DIN3-0.
+// The levels of DIN3-0, in bits 3-0.
 pub struct Din {
-    pub lines: u8,
+    pub lines: u32,
 }
 
 pub enum Event {
-    WriteByte { offset: u8, value: u8 },
-    ReadByte { offset: u8 },
-    ReadWord { offset: u8 },
+    WriteByte { offset: u32, value: u8 },
+    ReadByte { offset: u32 },
+    ReadWord { offset: u32 },
     ConversionEnd { code: i16 },
     DinPins(Din),
-    LatchLevel { high: bool },
+    LatchLevel { level: u32 },
     PortPins(Port, u8),
     Tick,
     TransferEnd,

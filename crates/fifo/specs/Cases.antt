@@ -6,7 +6,7 @@ use Rattle.fifo.specs.Flags.{flagBits}
 use Rattle.fifo.specs.Queue.{pushedTo, poppedFrom}
 
 abbrev pub full : Fifo
-full = record { held = 512; ovf = false }
+full = record { held = 512; ovf = 0 }
 
 -- 7 reads 60 in hexadecimal
 pub full-reads : flagBits full ≡ 96
@@ -19,6 +19,6 @@ unfolding flagBits pushedTo
 over-reads = refl
 
 -- a read then leaves 511 held and OVF clear
-pub read-clears : poppedFrom (pushedTo full) ≡ record { held = 511; ovf = false }
+pub read-clears : poppedFrom (pushedTo full) ≡ record { held = 511; ovf = 0 }
 unfolding pushedTo poppedFrom
 read-clears = refl

@@ -3,6 +3,7 @@ use mathlib.Core.Bool.{Bool}
 use Prim.Native.Nat.{ℕ, _+_, _≤_}
 use native.Mathlib.Omega.{arith}
 use lib.Dec.{leb, eqb}
+use Rattle.base.specs.Flags.{on}
 use Rattle.base.specs.Weights.{weightOf, weight-le}
 use Rattle.fifo.specs.declared.Fifo.{Fifo}
 
@@ -20,7 +21,7 @@ FF f = eqb (f .held) 512
 
 -- a sample has been lost since one was last read
 abbrev pub OVF : Fifo → Bool
-OVF f = f .ovf
+OVF f = on (f .ovf)
 
 -- the four flags as they stand in the byte: bits 7 to 4
 unfoldable pub flagBits : Fifo → ℕ

@@ -10,6 +10,7 @@ use mathlib.Core.Bool.{Bool, true, false, _&&_, _||_, not}
 use Prim.Native.Nat.{ℕ, _+_, _-_, _≤_}
 use lib.ListN.{length, take, drop, replicate}
 use lib.Dec.{leb, ltb, eqb}
+use Rattle.base.specs.Flags.{on}
 use Rattle.base.specs.Choice.{if_then_else_}
 use Rattle.base.specs.Tests.{all}
 use Rattle.fifo.specs.declared.Fifo.{Fifo}
@@ -24,15 +25,15 @@ layout f samples = samples ++ replicate (512 - length samples) 0
 
 -- the record of a memory that holds nothing
 abbrev pub emptyFifo : Fifo
-emptyFifo = record { held = 0; ovf = false }
+emptyFifo = record { held = 0; ovf = 0 }
 
 -- the record after an end of a conversion: one sample more; with 512 held OVF is set instead
 unfoldable pub pushedTo : Fifo → Fifo
-pushedTo f = if ltb (f .held) 512 then record { held = f .held + 1; ovf = f .ovf } else record { held = f .held; ovf = true }
+pushedTo f = if ltb (f .held) 512 then record { held = f .held + 1; ovf = f .ovf } else record { held = f .held; ovf = 1 }
 
 -- the record after a read of 1: one sample less, and OVF clears; with none held no change
 unfoldable pub poppedFrom : Fifo → Fifo
-poppedFrom f = if eqb (f .held) 0 then f else record { held = f .held - 1; ovf = false }
+poppedFrom f = if eqb (f .held) 0 then f else record { held = f .held - 1; ovf = 0 }
 
 -- what an event leaves: the record is f, and the memory is the one that holds these samples
 pub record Leaves (f : Fifo) (samples : List ℕ) (result : Fifo) (memory : List ℕ) : Type 0 where
@@ -47,7 +48,7 @@ zeros (x ∷ xs) = eqb x 0 && zeros xs
 -- the tests that the code makes
 pub fifoTests : Fifo → List ℕ → List Bool
 fifoTests f memory =
-    eqb (length memory) 512 ∷ leb (f .held) 512 ∷ (not (f .ovf) || eqb (f .held) 512) ∷ zeros (drop (f .held) memory) ∷ []
+    eqb (length memory) 512 ∷ leb (f .held) 512 ∷ leb (f .ovf) 1 ∷ (not (on (f .ovf)) || eqb (f .held) 512) ∷ zeros (drop (f .held) memory) ∷ []
 
 pub isWorking : Fifo → List ℕ → Bool
 isWorking f memory = all (fifoTests f memory)
@@ -58,7 +59,8 @@ pub record WorkingFifo (f : Fifo) (memory : List ℕ) : Type 0 where
   pub long : length memory ≡ 512
   -- 0 to 512 samples held
   pub held : f .held ≤ 512
-  -- OVF is set only at 512 held
-  pub ovf : f .ovf ≡ true → f .held ≡ 512
+  -- OVF is 0 or 1, and set only at 512 held
+  pub flag : f .ovf ≤ 1
+  pub ovf : on (f .ovf) ≡ true → f .held ≡ 512
   -- the memory is the one that holds its samples: free places are 0
   pub laid : memory ≡ layout f (queue f memory)

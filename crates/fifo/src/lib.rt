@@ -12,7 +12,8 @@ ghost use Rattle.fifo.specs.Moves.{movedDown};
 #[repr(C)]
 pub struct Fifo {
     pub held: u16,
-    pub ovf: bool,
+    // wide enough that the record has no padding
+    pub ovf: u16,
 }
 
 // Whether every place from `from` on is 0: the bits of all of them joined are none.
@@ -34,7 +35,8 @@ pub fn is_working(f: Fifo, memory: &[u16]) -> bool
 {
     (memory.len() == 512)
         & (f.held <= 512)
-        & (!f.ovf | (f.held == 512))
+        & (f.ovf <= 1)
+        & ((f.ovf != 1) | (f.held == 512))
         & are_zero(memory, f.held as usize)
 }
 
@@ -59,7 +61,7 @@ pub fn push(f: Fifo, memory: &mut [u16], sample: u16) -> Fifo
             ovf: f.ovf,
         }
     } else {
-        Fifo { held, ovf: true }
+        Fifo { held, ovf: 1 }
     }
 }
 
@@ -96,7 +98,7 @@ pub fn pop(f: Fifo, memory: &mut [u16]) -> Fifo
     move_down(memory, held as usize);
     let mut next = f;
     next.held = held - 1;
-    next.ovf = false;
+    next.ovf = 0;
     next
 }
 
@@ -104,10 +106,7 @@ pub fn pop(f: Fifo, memory: &mut [u16]) -> Fifo
 pub fn empty() -> Fifo
     ensures { λ r. ⌜ r ≡ emptyFifo ⌝ }
 {
-    Fifo {
-        held: 0,
-        ovf: false,
-    }
+    Fifo { held: 0, ovf: 0 }
 }
 
 // A FIFO reset, or a board's: whatever the 512 places hold, no sample is held afterwards.
@@ -151,5 +150,5 @@ pub fn flag_bits(f: Fifo) -> u8
     base::weight(is_empty(f), 128)
         + base::weight(is_half_full(f), 64)
         + base::weight(is_full(f), 32)
-        + base::weight(f.ovf, 16)
+        + base::weight(f.ovf == 1, 16)
 }

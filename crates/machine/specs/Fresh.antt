@@ -1,7 +1,8 @@
 -- A fresh board. The specification, "What is delivered": "A fresh board is as after RESETA, with counters unprogrammed, dividers at 0,
 -- DIN 15, Latch and port pins 0, EEPROM and TrimDAC 0."
 use Prim.Native.Nat.{ℕ}
-use mathlib.Core.Bool.{Bool, false}
+use mathlib.Core.Bool.{Bool}
+use Rattle.base.specs.Flags.{flag}
 use Rattle.converter.specs.Registers.{freshConverter}
 use Rattle.requests.specs.Registers.{freshRequests}
 use Rattle.fifo.specs.Queue.{emptyFifo}
@@ -34,6 +35,6 @@ freshBoard j zeroscale = record {
   clocks = record { timer = unprogrammedTimer; hundred = 0; thousand = 0 };
   ports = freshPorts;
   calibration = freshCalibration;
-  pins = record { din = 15; latch = false };
-  wiring = record { inputs = numberOf j; zeroscale = zeroscale };
+  pins = record { din = 15; latch = 0 };
+  wiring = record { inputs = numberOf j; zeroscale = flag zeroscale };
 }

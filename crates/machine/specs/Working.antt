@@ -8,6 +8,7 @@ use borrow.Author.Tests.{leb-true, le-leb}
 use lib.Dec.{leb}
 use Rattle.base.specs.Tests.{all, each, every}
 use Rattle.converter.specs.Working as converter
+use Rattle.requests.specs.Working.{WorkingRequests, requestsWork, requests-of, requests-to}
 use Rattle.outputs.specs.Working.{WorkingOutputs, outputsWork}
 use Rattle.outputs.specs.Laws.{outputs-of, outputs-to}
 use Rattle.timer.specs.Working.{WorkingTimer, workingTimer, timer-of, timer-to}
@@ -32,18 +33,22 @@ pub record WorkingClocks (k : Clocks) : Type 0 where
 
 pub record WorkingMachine (b : Board) : Type 0 where
   pub converter : converter.WorkingConverter (b .converter)
+  pub requests : WorkingRequests (b .requests)
   pub registers : WorkingRegisters (b .registers)
   pub outputs : WorkingOutputs (b .outputs)
   pub clocks : WorkingClocks (b .clocks)
   pub ports : WorkingPorts (b .ports)
   pub calibration : WorkingCalibration (b .calibration)
   pub din : b .pins .din ≤ 15
+  pub latch : b .pins .latch ≤ 1
   pub inputs : b .wiring .inputs ≤ 3
+  pub zeroscale : b .wiring .zeroscale ≤ 1
 
 -- the tests that the code makes
 abbrev pub machineTests : Board → List Bool
 machineTests b =
     converter.isWorking (b .converter)
+    ∷ requestsWork (b .requests)
     ∷ leb (b .registers .page) 3
     ∷ leb (b .registers .dout) 7
     ∷ leb (b .registers .range) 15
@@ -54,7 +59,9 @@ machineTests b =
     ∷ portsWork (b .ports)
     ∷ calibrationWorks (b .calibration)
     ∷ leb (b .pins .din) 15
+    ∷ leb (b .pins .latch) 1
     ∷ leb (b .wiring .inputs) 3
+    ∷ leb (b .wiring .zeroscale) 1
     ∷ []
 
 unfoldable pub workingMachine : Board → Bool
@@ -67,54 +74,30 @@ machine-of b h =
     let e = each (machineTests b) h in
     record {
       converter = converter.working-of _ (e .0);
-      registers = record { page = leb-true _ _ (e .1 .0); dout = leb-true _ _ (e .1 .1 .0); range = leb-true _ _ (e .1 .1 .1 .0) };
-      outputs = outputs-of _ (e .1 .1 .1 .1 .0);
+      requests = requests-of _ (e .1 .0);
+      registers = record { page = leb-true _ _ (e .1 .1 .0); dout = leb-true _ _ (e .1 .1 .1 .0); range = leb-true _ _ (e .1 .1 .1 .1 .0) };
+      outputs = outputs-of _ (e .1 .1 .1 .1 .1 .0);
       clocks =
           record {
-            timer = timer-of _ (e .1 .1 .1 .1 .1 .0);
-            hundred = leb-true _ _ (e .1 .1 .1 .1 .1 .1 .0);
-            thousand = leb-true _ _ (e .1 .1 .1 .1 .1 .1 .1 .0);
+            timer = timer-of _ (e .1 .1 .1 .1 .1 .1 .0);
+            hundred = leb-true _ _ (e .1 .1 .1 .1 .1 .1 .1 .0);
+            thousand = leb-true _ _ (e .1 .1 .1 .1 .1 .1 .1 .1 .0);
           };
-      ports = ports-of _ (e .1 .1 .1 .1 .1 .1 .1 .1 .0);
-      calibration = calibration-of _ (e .1 .1 .1 .1 .1 .1 .1 .1 .1 .0);
-      din = leb-true _ _ (e .1 .1 .1 .1 .1 .1 .1 .1 .1 .1 .0);
-      inputs = leb-true _ _ (e .1 .1 .1 .1 .1 .1 .1 .1 .1 .1 .1 .0);
+      ports = ports-of _ (e .1 .1 .1 .1 .1 .1 .1 .1 .1 .0);
+      calibration = calibration-of _ (e .1 .1 .1 .1 .1 .1 .1 .1 .1 .1 .0);
+      din = leb-true _ _ (e .1 .1 .1 .1 .1 .1 .1 .1 .1 .1 .1 .0);
+      latch = leb-true _ _ (e .1 .1 .1 .1 .1 .1 .1 .1 .1 .1 .1 .1 .0);
+      inputs = leb-true _ _ (e .1 .1 .1 .1 .1 .1 .1 .1 .1 .1 .1 .1 .1 .0);
+      zeroscale = leb-true _ _ (e .1 .1 .1 .1 .1 .1 .1 .1 .1 .1 .1 .1 .1 .1 .0);
     }
 
 pub machine-to : (b : Board) → WorkingMachine b → workingMachine b ≡ true
 unfolding workingMachine
 machine-to b w =
-    every (machineTests b) (
-      converter.working-to _ (w .converter),
-      (
-        le-leb _ _ (w .registers .page),
-        (
-          le-leb _ _ (w .registers .dout),
-          (
-            le-leb _ _ (w .registers .range),
-            (
-              outputs-to _ (w .outputs),
-              (
-                timer-to _ (w .clocks .timer),
-                (
-                  le-leb _ _ (w .clocks .hundred),
-                  (
-                    le-leb _ _ (w .clocks .thousand),
-                    (
-                      ports-to _ (w .ports),
-                      (
-                        calibration-to _ (w .calibration),
-                        (
-                          le-leb _ _ (w .din),
-                          (le-leb _ _ (w .inputs), tt),
-                        ),
-                      ),
-                    ),
-                  ),
-                ),
-              ),
-            ),
-          ),
-        ),
-      ),
-    )
+    let c = converter.working-to _ (w .converter) in
+    let r = requests-to _ (w .requests) in
+    let o = outputs-to _ (w .outputs) in
+    let t = timer-to _ (w .clocks .timer) in
+    let p = ports-to _ (w .ports) in
+    let k = calibration-to _ (w .calibration) in
+    every (machineTests b) (search (le-leb, c, r, o, t, p, k) depth 24)

@@ -41,14 +41,14 @@ pub struct Clocks {
 #[repr(C)]
 pub struct Pins {
     pub din: u8,
-    pub latch: bool,
+    pub latch: u8,
 }
 
 // The jumpers: channel configuration 0 to 3 for A to D, and whether the outputs go to zero scale at a reset.
 #[repr(C)]
 pub struct Wiring {
     pub inputs: u8,
-    pub zeroscale: bool,
+    pub zeroscale: u8,
 }
 
 #[repr(C)]
@@ -105,13 +105,10 @@ pub fn fresh(jumpers: Jumpers, zero_scale: bool) -> Board
         },
         ports: ports::fresh(),
         calibration: calibration::fresh(),
-        pins: Pins {
-            din: 15,
-            latch: false,
-        },
+        pins: Pins { din: 15, latch: 0 },
         wiring: Wiring {
             inputs,
-            zeroscale: zero_scale,
+            zeroscale: zero_scale as u8,
         },
     }
 }
@@ -121,6 +118,7 @@ pub fn is_working(b: Board) -> bool
     ensures { λ r. ⌜ r ≡ workingMachine b ⌝ }
 {
     converter::channels::is_working(b.converter)
+        & requests::is_working(b.requests)
         & (b.registers.page <= 3)
         & (b.registers.dout <= 7)
         & (b.registers.range <= 15)
@@ -131,7 +129,9 @@ pub fn is_working(b: Board) -> bool
         & ports::works(b.ports)
         & calibration::works(b.calibration)
         & (b.pins.din <= 15)
+        & (b.pins.latch <= 1)
         & (b.wiring.inputs <= 3)
+        & (b.wiring.zeroscale <= 1)
 }
 
 // DOUT2-0 as they stand on their pins (bits 2 to 0): OUT2 and OUT0 where OUT2EN and OUT0EN route them there.
@@ -140,10 +140,10 @@ pub fn dout_pins(b: Board) -> u8
 {
     let w = b.registers.counting;
     let d = b.registers.dout;
-    let two = (w / 32 % 2 == 1) & b.clocks.timer.counter2.count.out
+    let two = (w / 32 % 2 == 1) & (b.clocks.timer.counter2.count.out == 1)
         | !(w / 32 % 2 == 1) & (d / 4 % 2 == 1);
     let one = d / 2 % 2 == 1;
-    let zero = (w / 16 % 2 == 1) & b.clocks.timer.counter0.count.out
+    let zero = (w / 16 % 2 == 1) & (b.clocks.timer.counter0.count.out == 1)
         | !(w / 16 % 2 == 1) & (d / 1 % 2 == 1);
     base::weight(two, 4) + base::weight(one, 2) + base::weight(zero, 1)
 }

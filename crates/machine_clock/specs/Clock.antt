@@ -2,6 +2,7 @@
 -- Base+10 is FREQ12 FREQ0 OUT2EN OUT0EN RSVD GT0EN SRC0 GT12EN.
 use Prim.Native.Nat.{ℕ}
 use mathlib.Core.Bool.{false, not, _||_}
+use Rattle.base.specs.Flags.{on}
 use Rattle.base.specs.Fields.{bit}
 use Rattle.converter.specs.Channels.{clockTriggered}
 use Rattle.requests.specs.Requests.{askedTimer}
@@ -34,7 +35,7 @@ turned b t =
     (withRequests
     (withClocks b (withTimer (b .clocks) t))
     (askedTimer (b .requests) (fell (out (b .clocks .timer) Counter0) (out t Counter0))))
-    (clockTriggered (b .converter) (b .requests .clksel) (fell (out (b .clocks .timer) Counter2) (out t Counter2)) false false)
+    (clockTriggered (b .converter) (on (b .requests .clksel)) (fell (out (b .clocks .timer) Counter2) (out t Counter2)) false false)
 
 -- by a write of page 0
 abbrev pub turnedBy : Board → Written → Board

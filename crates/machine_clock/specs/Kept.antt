@@ -1,6 +1,8 @@
 -- The gates, a timer that moves and a write of Base+10 keep a working board working.
 use Prim.Native.Nat.{ℕ}
 use mathlib.Core.Bool.{false}
+use Rattle.base.specs.Flags.{on}
+use Rattle.requests.specs.Working as requests
 use Rattle.converter.specs.Working as converter
 use Rattle.converter.specs.Channels.{clockTrigger}
 use Rattle.timer.specs.Working.{WorkingTimer}
@@ -9,7 +11,7 @@ use Rattle.timer_bus.specs.Kept.{WorkingWritten}
 use Rattle.timer.specs.Timer.{out, fell, gatesMoved}
 use Rattle.timer.specs.declared.Timer.{Timer}
 use Rattle.timer.specs.declared.Gates.{Gates}
-use Rattle.timer.specs.declared.Select.the-variants.{Counter2}
+use Rattle.timer.specs.declared.Select.the-variants.{Counter0, Counter2}
 use Rattle.timer_bus.specs.declared.Written.{Written}
 use Rattle.timer_bus.specs.declared.Written.the-variants.{Accepted, Refused}
 use Rattle.machine.specs.Parts.{withClocks}
@@ -31,14 +33,17 @@ unfolding turned
 turned-works b t w k = record {
   converter =
       converter.triggered-works (b .converter)
-      (clockTrigger (b .converter) (b .requests .clksel) (fell (out (b .clocks .timer) Counter2) (out t Counter2)) false false) (w .converter);
+      (clockTrigger (b .converter) (on (b .requests .clksel)) (fell (out (b .clocks .timer) Counter2) (out t Counter2)) false false) (w .converter);
+  requests = requests.timer-works (b .requests) (fell (out (b .clocks .timer) Counter0) (out t Counter0)) (w .requests);
   registers = w .registers;
   outputs = w .outputs;
   clocks = timer-kept (b .clocks) t (w .clocks) k;
   ports = w .ports;
   calibration = w .calibration;
   din = w .din;
+  latch = w .latch;
   inputs = w .inputs;
+  zeroscale = w .zeroscale;
 }
 
 pub turned-by-works : (b : Board) (r : Written) → WorkingMachine b → WorkingWritten r → WorkingMachine (turnedBy b r)

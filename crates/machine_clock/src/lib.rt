@@ -38,12 +38,12 @@ pub fn turn(b: Board, t: Timer) -> Board
     ensures { λ r. ⌜ r ≡ turned b t ⌝ }
 {
     let s = b.clocks.timer;
-    let fell0 = timer::has_fallen(s.counter0.count.out, t.counter0.count.out);
-    let fell2 = timer::has_fallen(s.counter2.count.out, t.counter2.count.out);
+    let fell0 = timer::has_fallen(s.counter0.count.out == 1, t.counter0.count.out == 1);
+    let fell2 = timer::has_fallen(s.counter2.count.out == 1, t.counter2.count.out == 1);
     let mut c = b;
     c.converter = converter::channels::clock_trigger(
         b.converter,
-        b.requests.clksel,
+        b.requests.clksel == 1,
         fell2,
         false,
         false,

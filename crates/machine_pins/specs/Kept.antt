@@ -1,7 +1,9 @@
 -- The pins keep a working board working.
 use Prim.Native.Nat.{ℕ, _≤_}
 use mathlib.Core.Path.{refl}
-use mathlib.Core.Bool.{Bool, false}
+use mathlib.Core.Bool.{Bool, false, not, _&&_}
+use Rattle.base.specs.Flags.{on, flag-le}
+use Rattle.requests.specs.Working as requests
 use Rattle.converter.specs.Working as converter
 use Rattle.converter.specs.Channels.{clockTrigger}
 use Rattle.timer.specs.Kept.{clocked-working}
@@ -17,7 +19,7 @@ use Rattle.machine_clock.specs.Kept.{gates-kept, turned-works}
 
 din-moved-works : (b : Board) (n : ℕ) → n ≤ 15 → WorkingMachine b → WorkingMachine (dinMoved b n)
 unfolding dinMoved
-din-moved-works b n h w = same-working _ _ (gates-kept b (gatesAt (b .registers .counting) n) w) h refl refl refl refl refl refl refl
+din-moved-works b n h w = same-working _ _ (gates-kept b (gatesAt (b .registers .counting) n) w) (w .requests) h (w .latch) refl refl refl refl refl refl refl
 
 din0-works : (b : Board) (fallen : Bool) → WorkingMachine b → WorkingMachine (din0Clocked b fallen)
 unfolding din0Clocked
@@ -27,7 +29,7 @@ din3-works : (b : Board) (fallen : Bool) → WorkingMachine b → WorkingMachine
 unfolding din3Triggered
 din3-works b fallen w =
     converter-kept b w _
-    (converter.triggered-works (b .converter) (clockTrigger (b .converter) (b .requests .clksel) false fallen (triggersStopped b)) (w .converter))
+    (converter.triggered-works (b .converter) (clockTrigger (b .converter) (on (b .requests .clksel)) false fallen (triggersStopped b)) (w .converter))
 
 pub din-works : (b : Board) (n : ℕ) → n ≤ 15 → WorkingMachine b → WorkingMachine (dinSet b n)
 unfolding dinSet
@@ -35,7 +37,8 @@ din-works b n h w = din3-works _ _ (din0-works _ _ (din-moved-works b n h w))
 
 pub latch-works : (b : Board) (high : Bool) → WorkingMachine b → WorkingMachine (latchSet b high)
 unfolding latchSet
-latch-works b high w = same-working b _ w (w .din) refl refl refl refl refl refl refl
+latch-works b high w =
+    same-working b _ w (requests.latch-works (b .requests) (not (on (b .pins .latch)) && high) (w .requests)) (w .din) (flag-le high) refl refl refl refl refl refl refl
 
 pub port-works : (b : Board) (q : Port) (v : ℕ) → WorkingMachine b → WorkingMachine (portSet b q v)
 unfolding portSet

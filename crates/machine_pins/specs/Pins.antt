@@ -1,6 +1,7 @@
 -- Pins (manual, Base+4, Base+9, Base+10 and 16.5; the specification, "Conversions, edges and requests").
 use Prim.Native.Nat.{ℕ}
 use mathlib.Core.Bool.{Bool, false, not, _&&_}
+use Rattle.base.specs.Flags.{on, flag}
 use Rattle.base.specs.Fields.{bit}
 use Rattle.converter.specs.Channels.{clockTriggered}
 use Rattle.requests.specs.Requests.{askedLatch}
@@ -34,7 +35,7 @@ triggersStopped b = bit (b .registers .counting) 1 && not (bit (b .pins .din) 4)
 
 unfoldable pub din3Triggered : Board → Bool → Board
 din3Triggered b fallen =
-    withConverter b (clockTriggered (b .converter) (b .requests .clksel) false fallen (triggersStopped b))
+    withConverter b (clockTriggered (b .converter) (on (b .requests .clksel)) false fallen (triggersStopped b))
 
 unfoldable pub dinSet : Board → ℕ → Board
 dinSet b din = din3Triggered (din0Clocked (dinMoved b din) (fellFrom (b .pins .din) din 1)) (fellFrom (b .pins .din) din 8)
@@ -43,8 +44,8 @@ dinSet b din = din3Triggered (din0Clocked (dinMoved b din) (fellFrom (b .pins .d
 unfoldable pub latchSet : Board → Bool → Board
 latchSet b high =
     withPins
-    (withRequests b (askedLatch (b .requests) (not (b .pins .latch) && high)))
-    (record { din = b .pins .din; latch = high })
+    (withRequests b (askedLatch (b .requests) (not (on (b .pins .latch)) && high)))
+    (record { din = b .pins .din; latch = flag high })
 
 -- ---- the pins of a port
 unfoldable pub portSet : Board → Port → ℕ → Board

@@ -59,7 +59,7 @@ fn trigger_din_3(b: Board, fallen: bool) -> Board
     let mut c = b;
     c.converter = converter::channels::clock_trigger(
         b.converter,
-        b.requests.clksel,
+        b.requests.clksel == 1,
         false,
         fallen,
         stopped,
@@ -82,10 +82,11 @@ pub fn set_din(b: Board, din: u8) -> Board
 pub fn set_latch(b: Board, high: bool) -> Board
     ensures { λ r. ⌜ r ≡ latchSet b high ⌝ }
 {
-    let rose = !b.pins.latch & high;
+    let rose = (b.pins.latch != 1) & high;
     let mut c = b;
     c.requests = requests::ask_latch(b.requests, rose);
-    c.pins.latch = high;
+    let level = high as u8;
+    c.pins.latch = level;
     c
 }
 

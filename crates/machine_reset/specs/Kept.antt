@@ -3,6 +3,8 @@ use Prim.Native.Nat.{ℕ}
 use mathlib.Core.Path.{refl}
 use mathlib.Core.Bool.{Bool}
 use native.Mathlib.Omega.{arith}
+use Rattle.base.specs.Flags.{on}
+use Rattle.requests.specs.Working as requests
 use Rattle.base.specs.Fields.{bit}
 use Rattle.base.specs.Laws.{by-choice}
 use Rattle.converter.specs.Working as converter
@@ -22,18 +24,21 @@ pub reset-works : (b : Board) (analog : Bool) → WorkingMachine b → WorkingMa
 unfolding boardReset
 reset-works b analog w = record {
   converter = converter.fresh-works;
+  requests = requests.fresh-works;
   registers = record { page = omega arith; dout = omega arith; range = omega arith };
-  outputs = by-choice WorkingOutputs analog (outputs.reset-a-works (b .wiring .zeroscale)) (outputs.reset-d-works (b .outputs) (w .outputs));
+  outputs = by-choice WorkingOutputs analog (outputs.reset-a-works (on (b .wiring .zeroscale))) (outputs.reset-d-works (b .outputs) (w .outputs));
   clocks = timer-kept (b .clocks) _ (w .clocks) (gates-working _ (gates b) (gatesAt 0 (b .pins .din)) (w .clocks .timer));
   ports = ports.reset-works (b .ports);
   calibration = calibration.reset-works (b .calibration);
   din = w .din;
+  latch = w .latch;
   inputs = w .inputs;
+  zeroscale = w .zeroscale;
 }
 
 cleared-works : (b : Board) → WorkingMachine b → WorkingMachine (requestsCleared b)
 unfolding requestsCleared
-cleared-works b w = same-working b _ w (w .din) refl refl refl refl refl refl refl
+cleared-works b w = same-working b _ w (requests.cleared-works (b .requests) (w .requests)) (w .din) (w .latch) refl refl refl refl refl refl refl
 
 page-works : (b : Board) (v : ℕ) → WorkingMachine b → WorkingMachine (pageSet b v)
 unfolding pageSet

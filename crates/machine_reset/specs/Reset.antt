@@ -2,6 +2,7 @@
 -- 17.3 say that a reset bit leaves the page bits; the specification zeroes the page.
 use Prim.Native.Nat.{ℕ, _%_}
 use mathlib.Core.Bool.{Bool, _||_}
+use Rattle.base.specs.Flags.{on}
 use Rattle.base.specs.Choice.{if_then_else_}
 use Rattle.base.specs.Fields.{bit}
 use Rattle.converter.specs.Registers.{freshConverter}
@@ -31,7 +32,7 @@ boardReset b analog = record {
   requests = freshRequests;
   fifo = b .fifo;
   registers = freshRegisters;
-  outputs = outputsReset (b .outputs) analog (b .wiring .zeroscale);
+  outputs = outputsReset (b .outputs) analog (on (b .wiring .zeroscale));
   clocks = withTimer (b .clocks) (gatesMoved (b .clocks .timer) (gates b) (gatesAt 0 (b .pins .din)));
   ports = resetPorts (b .ports);
   calibration = resetCalibration (b .calibration);

@@ -27,7 +27,7 @@ pub fn reset_board(b: Board, analog: bool) -> Board
     c.converter = converter::channels::fresh_converter();
     c.requests = requests::fresh_requests();
     c.registers = machine::fresh_registers();
-    c.outputs = reset_outputs(b.outputs, analog, b.wiring.zeroscale);
+    c.outputs = reset_outputs(b.outputs, analog, b.wiring.zeroscale == 1);
     c.clocks = machine_clock::put_timer(b.clocks, t);
     c.ports = ports::reset(b.ports);
     c.calibration = calibration::reset(b.calibration);

@@ -4,6 +4,7 @@ use mathlib.Core.Bool.{Bool, false}
 use mathlib.Core.List.{List, [], _∷_}
 use lib.IntN.{ℤ, pos}
 use lib.ListN.{length, replicate}
+use Rattle.base.specs.Flags.{on}
 use Rattle.fifo.specs.declared.Fifo.{Fifo}
 use Rattle.machine.specs.Fresh.{freshBoard}
 use Rattle.machine.specs.Parts.{withFifo}
@@ -21,7 +22,7 @@ fresh = record { board = freshBoard A false; samples = []; eeprom = replicate 12
 -- a fresh board that holds 512 samples
 abbrev pub full : Held
 full = record {
-  board = withFifo (freshBoard A false) (record { held = 512; ovf = false });
+  board = withFifo (freshBoard A false) (record { held = 512; ovf = 0 });
   samples = replicate 512 0;
   eeprom = replicate 128 0;
 }
@@ -54,7 +55,7 @@ conversions (n ∷ ns) h = conversions ns (converted h)
 -- ---- OUT0 after each of some ticks
 abbrev pub outs : List ℕ → Held → List Bool
 outs [] h = []
-outs (n ∷ ns) h = happened h Tick .board .clocks .timer .counter0 .count .out ∷ outs ns (happened h Tick)
+outs (n ∷ ns) h = on (happened h Tick .board .clocks .timer .counter0 .count .out) ∷ outs ns (happened h Tick)
 
 abbrev pub ticks : List ℕ → Held → Held
 ticks [] h = h

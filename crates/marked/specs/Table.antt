@@ -63,7 +63,7 @@ pub record Marked : Type 0 where
   -- 2. 512 held: 7 reads 60; one more end: 70; word read: 511 held, OVF clear
   pub case-2 : answers full (ReadByte 7 ∷ WriteByte 0 0 ∷ ConversionEnd (pos 1) ∷ ReadByte 7 ∷ ReadWord 0 ∷ [])
       ≡ Byte 0x60 ∷ Done ∷ Done ∷ Byte 0x70 ∷ Word 0 ∷ []
-  pub case-2-held : after full (WriteByte 0 0 ∷ ConversionEnd (pos 1) ∷ ReadWord 0 ∷ []) .board .fifo ≡ record { held = 511; ovf = false }
+  pub case-2-held : after full (WriteByte 0 0 ∷ ConversionEnd (pos 1) ∷ ReadWord 0 ∷ []) .board .fifo ≡ record { held = 511; ovf = 0 }
   -- 3. Channels 3-5, five conversions: 3,4,5,3,4; selected 5
   pub case-3 : channels five (after fresh (range 3 5)) ≡ 3 ∷ 4 ∷ 5 ∷ 3 ∷ 4 ∷ []
   pub case-3-selected : conversions five (after fresh (range 3 5)) .board .converter .selected ≡ 5

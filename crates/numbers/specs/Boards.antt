@@ -3,6 +3,9 @@ use Prim.Native.Nat.{ℕ, _≤_, _<_}
 use mathlib.Core.Bool.{Bool, true, false}
 use mathlib.Core.Path.{_≡_, refl}
 use native.Mathlib.Omega.{arith}
+use lib.Dec.{leb}
+use Rattle.base.specs.Choice.{if_then_else_}
+use Rattle.base.specs.Flags.{nonzero}
 use Rattle.machine.specs.Fresh.{freshBoard, numberOf}
 use Rattle.machine.specs.Working.{workingMachine, machine-of}
 use Rattle.machine.specs.declared.Board.{Board}
@@ -24,21 +27,32 @@ wired b inputs = record {
   wiring = record { inputs = inputs; zeroscale = b .wiring .zeroscale };
 }
 
--- jumpers A to D are 0 to 3; any other number stands in the record as it came
-abbrev pub freshOf : ℕ → Bool → Board
-freshOf jumpers zeroscale = wired (freshBoard A zeroscale) jumpers
+-- jumpers A to D are 0 to 3; any other number stands in the record as it came, and as 255 where a byte does not hold it
+abbrev pub byteOf : ℕ → ℕ
+byteOf jumpers = if leb jumpers 255 then jumpers else 255
+
+-- zero scale: 0 is no, any other number yes
+abbrev pub freshOf : ℕ → ℕ → Board
+freshOf jumpers zeroscale = wired (freshBoard A (nonzero zeroscale)) (byteOf jumpers)
 
 -- it is the fresh board of the jumpers that the number stands for
-pub fresh-of : (j : Jumpers) (zeroscale : Bool) → freshOf (numberOf j) zeroscale ≡ freshBoard j zeroscale
+pub fresh-of : (j : Jumpers) (zeroscale : ℕ) → freshOf (numberOf j) zeroscale ≡ freshBoard j (nonzero zeroscale)
 fresh-of A z = refl
 fresh-of B z = refl
 fresh-of C z = refl
 fresh-of D z = refl
 
+above : (n : ℕ) → 3 < n → 3 < byteOf n
+above n h = by (leb n 255) refl
+  where
+    by : (t : Bool) → leb n 255 ≡ t → 3 < byteOf n
+    by true e = rw e h
+    by false e = rw e (omega arith)
+
 -- a number that stands for no jumpers makes no working board, so every event is refused
-pub fresh-none : (n : ℕ) (zeroscale : Bool) → 3 < n → workingMachine (freshOf n zeroscale) ≡ false
+pub fresh-none : (n zeroscale : ℕ) → 3 < n → workingMachine (freshOf n zeroscale) ≡ false
 fresh-none n zeroscale h = by (workingMachine (freshOf n zeroscale)) refl
   where
     by : (t : Bool) → workingMachine (freshOf n zeroscale) ≡ t → t ≡ false
-    by true e = absurd (let w : n ≤ 3 = machine-of (freshOf n zeroscale) e .inputs in omega arith)
+    by true e = absurd (let w : byteOf n ≤ 3 = machine-of (freshOf n zeroscale) e .inputs in let k : 3 < byteOf n = above n h in omega arith)
     by false e = refl

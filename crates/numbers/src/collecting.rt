@@ -19,7 +19,7 @@ ghost use Rattle.numbers.specs.Collecting.{noCollector, startAnswer, acc
 #[repr(C)]
 pub struct StartAnswer {
     pub collector: Collector,
-    pub refusal: u8,
+    pub refusal: u16,
 }
 
 // The access that is named: 0 none, 1 byte write, 2 byte read, 3 word read.
@@ -72,7 +72,7 @@ fn answer_start(s: Started) -> StartAnswer
         },
         Started::NotBegun(number) => StartAnswer {
             collector: no_collector(),
-            refusal: number,
+            refusal: number as u16,
         },
     }
 }
@@ -180,7 +180,7 @@ pub fn take(c: Collector, answer: BusAnswer) -> TakenAnswer
 }
 
 // How many of the samples, from the front, are the part that holds whole scans.
-pub fn whole_length(samples: &[i16], low: u8, high: u8) -> usize
+pub fn whole_length(samples: &[i16], low: u32, high: u32) -> usize
     ensures { λ r. ⌜ r ≡ length (wholeScans (now (samples .entry)) low high) ⌝ }
 {
     let part = scans::whole_scans(samples, low, high);

@@ -4,7 +4,7 @@ ghost use mathlib.Core.Path.{_≡_};
 ghost use Rattle.board.specs.Step.{stepOf, memoryAfter, eepromAfter};
 ghost use Rattle.board_stores.specs.Stores.{freshMemory, freshEeprom, storesAnswer};
 ghost use Rattle.numbers.specs.Packed.{answerNumber, numberedOf};
-ghost use Rattle.numbers.specs.Boards.{freshOf};
+ghost use Rattle.numbers.specs.Boards.{byteOf, freshOf};
 use board::Answer;
 use board::Board;
 use board::Event;
@@ -46,12 +46,20 @@ pub fn stepped(board: Board, memory: &mut [u16], eeprom: &mut [u8], event: Event
     }
 }
 
-// A fresh board's record, for jumpers 0 to 3; any other number stays in the record, which is then no working board's.
-pub fn fresh(jumpers: u8, zero_scale: bool) -> Board
+// A number of jumpers as the record has it: 255 where a byte does not hold it.
+fn byte_of(jumpers: u32) -> u8
+    ensures { λ r. ⌜ r ≡ byteOf jumpers ⌝ }
+{
+    if jumpers <= 255 { jumpers as u8 } else { 255 }
+}
+
+// A fresh board's record, for jumpers 0 to 3; any other number makes a record that is no working board's. Zero scale: 0 is no.
+pub fn fresh(jumpers: u32, zero_scale: u32) -> Board
     ensures { λ r. ⌜ r ≡ freshOf jumpers «zero_scale» ⌝ }
 {
-    let mut b = board::fresh(Jumpers::A, zero_scale);
-    b.wiring.inputs = jumpers;
+    let inputs = byte_of(jumpers);
+    let mut b = board::fresh(Jumpers::A, zero_scale != 0);
+    b.wiring.inputs = inputs;
     b
 }
 

@@ -5,6 +5,7 @@ use Prim.Native.Nat.{ℕ, zero, suc, _≤_, _<_, _-_}
 use native.Mathlib.Omega.{arith}
 use borrow.Author.Tests.{leb-true, le-leb, ne-eqb}
 use lib.Dec.{eqb}
+use Rattle.base.specs.Flags.{on}
 use Rattle.base.specs.Choice.{if_then_else_}
 use Rattle.base.specs.Laws.{by-choice, choice-le}
 use Rattle.base.specs.Tests.{each, every}
@@ -19,22 +20,12 @@ outputs-of o h =
     let e = each (outputsTests o) h in
     record {
       codes = record { out0 = leb-true _ _ (e .0); out1 = leb-true _ _ (e .1 .0); out2 = leb-true _ _ (e .1 .1 .0); out3 = leb-true _ _ (e .1 .1 .1 .0) };
-      load = record { channel = leb-true _ _ (e .1 .1 .1 .1 .0); code = leb-true _ _ (e .1 .1 .1 .1 .1 .0) };
-      busy = leb-true _ _ (e .1 .1 .1 .1 .1 .1 .0);
+      load = record { loaded = leb-true _ _ (e .1 .1 .1 .1 .0); channel = leb-true _ _ (e .1 .1 .1 .1 .1 .0); code = leb-true _ _ (e .1 .1 .1 .1 .1 .1 .0) };
+      busy = leb-true _ _ (e .1 .1 .1 .1 .1 .1 .1 .0);
     }
 
 pub outputs-to : (o : Outputs) → WorkingOutputs o → outputsWork o ≡ true
-outputs-to o k =
-    every (outputsTests o) (
-      le-leb _ _ (k .codes .out0),
-      (
-        le-leb _ _ (k .codes .out1),
-        (
-          le-leb _ _ (k .codes .out2),
-          (le-leb _ _ (k .codes .out3), (le-leb _ _ (k .load .channel), (le-leb _ _ (k .load .code), (le-leb _ _ (k .busy), tt)))),
-        ),
-      ),
-    )
+outputs-to o k = every (outputsTests o) (search (le-leb, arith))
 
 -- ---- each operation keeps them
 pub put-works : (k : Codes) (channel code : ℕ) → WorkingCodes k → code ≤ 4095 → WorkingCodes (put k channel code)
@@ -49,11 +40,12 @@ pub lsb-works : (o : Outputs) (v : ℕ) → WorkingOutputs o → WorkingOutputs 
 lsb-works o v w = record { codes = w .codes; load = w .load; busy = w .busy }
 
 pub msb-works : (o : Outputs) (v : ℕ) → WorkingOutputs o → WorkingOutputs (msbWritten o v)
-msb-works o v w = record { codes = w .codes; load = record { channel = omega arith; code = omega arith }; busy = omega arith }
+msb-works o v w = record { codes = w .codes; load = record { loaded = omega arith; channel = omega arith; code = omega arith }; busy = omega arith }
 
 pub updated-works : (o : Outputs) → WorkingOutputs o → WorkingOutputs (updated o)
 updated-works o w = record {
-  codes = by-choice WorkingCodes (o .load .loaded && not (dacbusy o)) (put-works (o .codes) (o .load .channel) (o .load .code) (w .codes) (w .load .code)) (w .codes);
+  codes =
+      by-choice WorkingCodes (on (o .load .loaded) && not (dacbusy o)) (put-works (o .codes) (o .load .channel) (o .load .code) (w .codes) (w .load .code)) (w .codes);
   load = w .load;
   busy = w .busy;
 }
@@ -62,7 +54,7 @@ pub ticked-works : (o : Outputs) → WorkingOutputs o → WorkingOutputs (ticked
 ticked-works o w = record { codes = w .codes; load = w .load; busy = omega arith }
 
 pub cleared-works : (k : Codes) → WorkingCodes k → WorkingOutputs (cleared k)
-cleared-works k w = record { codes = w; load = record { channel = omega arith; code = omega arith }; busy = omega arith }
+cleared-works k w = record { codes = w; load = record { loaded = omega arith; channel = omega arith; code = omega arith }; busy = omega arith }
 
 pub reset-a-works : (zero : Bool) → WorkingOutputs (resetA zero)
 reset-a-works true = cleared-works (level 0) (record { out0 = omega arith; out1 = omega arith; out2 = omega arith; out3 = omega arith })

@@ -3,6 +3,7 @@
 use mathlib.Core.Bool.{Bool, true, false, not, _&&_}
 use Prim.Native.Nat.{ℕ, _+_, _-_, _*_, _/_, _%_}
 use lib.Dec.{eqb, ltb}
+use Rattle.base.specs.Flags.{on}
 use Rattle.base.specs.Choice.{if_then_else_}
 use Rattle.base.specs.Fields.{field}
 use Rattle.outputs.specs.declared.Codes.{Codes}
@@ -43,11 +44,11 @@ scaleOf zero = if zero then 0 else 2048
 -- ---- the load (Base+5 write: DACH1 DACH0 X X DA11 DA10 DA9 DA8)
 -- channel DACH1-0; DA11-8 stand in the byte that is written, DA7-0 in the holding byte of Base+4 at that moment
 abbrev pub loadOf : ℕ → ℕ → Load
-loadOf lsb v = record { loaded = true; channel = field v 64 4; code = v % 16 * 256 + lsb % 256 }
+loadOf lsb v = record { loaded = 1; channel = field v 64 4; code = v % 16 * 256 + lsb % 256 }
 
 -- nothing loaded since a reset
 abbrev pub noLoad : Load
-noLoad = record { loaded = false; channel = 0; code = 0 }
+noLoad = record { loaded = 0; channel = 0; code = 0 }
 
 -- ---- the registers
 -- DACBUSY: while it is 1, a write of Base+4 or Base+5 is refused, number 6
@@ -64,7 +65,7 @@ msbWritten o v = record { codes = o .codes; load = loadOf (o .lsb) v; lsb = o .l
 
 -- read of Base+5: if not busy, the last loaded channel takes its code; with nothing loaded since a reset, no change; the load stays
 abbrev pub updatedCodes : Outputs → Codes
-updatedCodes o = if o .load .loaded && not (dacbusy o) then put (o .codes) (o .load .channel) (o .load .code) else o .codes
+updatedCodes o = if on (o .load .loaded) && not (dacbusy o) then put (o .codes) (o .load .channel) (o .load .code) else o .codes
 
 abbrev pub updated : Outputs → Outputs
 updated o = record { codes = updatedCodes o; load = o .load; lsb = o .lsb; busy = o .busy }

@@ -16,8 +16,9 @@ pub record WorkingCodes (k : Codes) : Type 0 where
   pub out2 : k .out2 ≤ 4095
   pub out3 : k .out3 ≤ 4095
 
--- the load names a channel and a code
+-- the load names a channel and a code, and its flag is 0 or 1
 pub record WorkingLoad (l : Load) : Type 0 where
+  pub loaded : l .loaded ≤ 1
   pub channel : l .channel ≤ 3
   pub code : l .code ≤ 4095
 
@@ -32,6 +33,7 @@ outputsTests o =
     ∷ leb (o .codes .out1) 4095
     ∷ leb (o .codes .out2) 4095
     ∷ leb (o .codes .out3) 4095
+    ∷ leb (o .load .loaded) 1
     ∷ leb (o .load .channel) 3
     ∷ leb (o .load .code) 4095
     ∷ leb (o .busy) 100

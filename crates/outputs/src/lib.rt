@@ -18,7 +18,7 @@ pub struct Codes {
 // What the D/A chip's load register holds: whether anything was loaded since a reset, for which channel, and the code.
 #[repr(C)]
 pub struct Load {
-    pub loaded: bool,
+    pub loaded: u8,
     pub channel: u8,
     pub code: u16,
 }
@@ -78,7 +78,7 @@ fn load_of(lsb: u8, v: u8) -> Load
     ensures { λ r. ⌜ r ≡ loadOf lsb v ⌝ }
 {
     Load {
-        loaded: true,
+        loaded: 1,
         channel: v / 64 % 4,
         code: ((v % 16) as u16) * 256 + (lsb as u16) % 256,
     }
@@ -91,7 +91,7 @@ fn clear(codes: Codes) -> Outputs
     Outputs {
         codes: codes,
         load: Load {
-            loaded: false,
+            loaded: 0,
             channel: 0,
             code: 0,
         },
@@ -134,7 +134,7 @@ fn update_codes(o: Outputs) -> Codes
 {
     let k = o.codes;
     let l = o.load;
-    if l.loaded & !is_busy(o) {
+    if (l.loaded == 1) & !is_busy(o) {
         put_code(k, l.channel, l.code)
     } else {
         k
@@ -213,6 +213,7 @@ pub fn works(o: Outputs) -> bool
         & (o.codes.out1 <= 4095)
         & (o.codes.out2 <= 4095)
         & (o.codes.out3 <= 4095)
+        & (o.load.loaded <= 1)
         & (o.load.channel <= 3)
         & (o.load.code <= 4095)
         & (o.busy <= 100)

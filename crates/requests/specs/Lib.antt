@@ -1,3 +1,4 @@
 pub mod Requests
 pub mod Registers
 pub mod Bytes
+pub mod Working

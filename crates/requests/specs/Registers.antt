@@ -3,7 +3,8 @@
 -- example have bit 1.
 use mathlib.Core.Bool.{Bool, false}
 use Prim.Native.Nat.{ℕ, _+_}
-use Rattle.base.specs.Fields.{bit}
+use Rattle.base.specs.Flags.{on}
+use Rattle.base.specs.Fields.{bit, field}
 use Rattle.base.specs.Weights.{weightOf}
 use Rattle.converter.specs.declared.channels.Converter.{Converter}
 use Rattle.requests.specs.declared.Requests.{Requests}
@@ -27,7 +28,7 @@ abbrev pub writtenFifoen : Requests → ℕ → Requests
 writtenFifoen r byte =
     record {
       threshold = r .threshold;
-      fifoen = bit byte 8;
+      fifoen = field byte 8 2;
       clksel = r .clksel;
       adinte = r .adinte;
       dinte = r .dinte;
@@ -45,23 +46,27 @@ writtenEnables r byte =
     record {
       threshold = r .threshold;
       fifoen = r .fifoen;
-      clksel = bit byte 1;
-      adinte = bit byte 128;
-      dinte = bit byte 64;
-      tinte = bit byte 32;
+      clksel = field byte 1 2;
+      adinte = field byte 128 2;
+      dinte = field byte 64 2;
+      tinte = field byte 32 2;
       flags = r .flags;
     }
 
 -- 7 read: FIFOEN and SCANEN, bits 3 and 2
 abbrev pub modeBits : Converter → Requests → ℕ
-modeBits c r = weightOf (r .fifoen) 8 + weightOf (c .scanen) 4
+modeBits c r = weightOf (on (r .fifoen)) 8 + weightOf (on (c .scanen)) 4
 
 -- 9 read: ADINT, DINT, TINT, bits 7 to 5, CLKEN and CLKSEL, bits 1 and 0
 abbrev pub requestBits : Converter → Requests → ℕ
 requestBits c r =
-    weightOf (r .flags .adint) 128 + weightOf (r .flags .dint) 64 + weightOf (r .flags .tint) 32 + weightOf (c .clken) 2 + weightOf (r .clksel) 1
+    weightOf (on (r .flags .adint)) 128
+    + weightOf (on (r .flags .dint)) 64
+    + weightOf (on (r .flags .tint)) 32
+    + weightOf (on (c .clken)) 2
+    + weightOf (on (r .clksel)) 1
 
 -- fresh, and after RESETA or RESETD: all registers and the request flags are zero
 abbrev pub freshRequests : Requests
 freshRequests =
-    record { threshold = 0; fifoen = false; clksel = false; adinte = false; dinte = false; tinte = false; flags = noFlags }
+    record { threshold = 0; fifoen = 0; clksel = 0; adinte = 0; dinte = 0; tinte = 0; flags = noFlags }

@@ -3,6 +3,7 @@
 use mathlib.Core.Bool.{Bool, false, _&&_, _||_, not}
 use Prim.Native.Nat.{ℕ, _*_}
 use lib.Dec.{leb}
+use Rattle.base.specs.Flags.{on, flag}
 use Rattle.requests.specs.declared.Flags.{Flags}
 use Rattle.requests.specs.declared.Requests.{Requests}
 
@@ -25,24 +26,24 @@ thresholdOf r = 2 * r .threshold
 
 -- whether an end sets ADINT: with ADINTE, after a lost or kept end, with SCANEN only after the scan's last, if FIFOEN=0 or held ≥ threshold
 abbrev pub asksAd : Requests → Bool → ℕ → Bool
-asksAd r last held = r .adinte && last && (not (r .fifoen) || leb (thresholdOf r) held)
+asksAd r last held = on (r .adinte) && last && (not (on (r .fifoen)) || leb (thresholdOf r) held)
 
 abbrev pub askedAd : Requests → Bool → ℕ → Requests
 askedAd r last held =
-    withFlags r (record { adint = r .flags .adint || asksAd r last held; dint = r .flags .dint; tint = r .flags .tint })
+    withFlags r (record { adint = flag (on (r .flags .adint) || asksAd r last held); dint = r .flags .dint; tint = r .flags .tint })
 
 -- with DINTE, a rising Latch sets DINT
 abbrev pub askedLatch : Requests → Bool → Requests
 askedLatch r rises =
-    withFlags r (record { adint = r .flags .adint; dint = r .flags .dint || r .dinte && rises; tint = r .flags .tint })
+    withFlags r (record { adint = r .flags .adint; dint = flag (on (r .flags .dint) || on (r .dinte) && rises); tint = r .flags .tint })
 
 -- with TINTE, a falling OUT0 sets TINT
 abbrev pub askedTimer : Requests → Bool → Requests
 askedTimer r falls =
-    withFlags r (record { adint = r .flags .adint; dint = r .flags .dint; tint = r .flags .tint || r .tinte && falls })
+    withFlags r (record { adint = r .flags .adint; dint = r .flags .dint; tint = flag (on (r .flags .tint) || on (r .tinte) && falls) })
 
 abbrev pub noFlags : Flags
-noFlags = record { adint = false; dint = false; tint = false }
+noFlags = record { adint = 0; dint = 0; tint = 0 }
 
 -- INTRST clears all three request flags
 abbrev pub cleared : Requests → Requests

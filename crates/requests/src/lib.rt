@@ -2,23 +2,24 @@
 ghost use mathlib.Core.Path.{_≡_};
 ghost use Rattle.requests.specs.Requests.{askedAd, askedLatch, askedTimer, cleared};
 ghost use Rattle.requests.specs.Registers.{writtenDepth, writtenFifoen, writtenEnables, FIFORST, modeBits, requestBits, freshRequests};
+ghost use Rattle.requests.specs.Working.{requestsWork};
 use converter::channels::Converter;
 
 #[repr(C)]
 pub struct Flags {
-    pub adint: bool,
-    pub dint: bool,
-    pub tint: bool,
+    pub adint: u8,
+    pub dint: u8,
+    pub tint: u8,
 }
 
 #[repr(C)]
 pub struct Requests {
     pub threshold: u8,
-    pub fifoen: bool,
-    pub clksel: bool,
-    pub adinte: bool,
-    pub dinte: bool,
-    pub tinte: bool,
+    pub fifoen: u8,
+    pub clksel: u8,
+    pub adinte: u8,
+    pub dinte: u8,
+    pub tinte: u8,
     pub flags: Flags,
 }
 
@@ -26,9 +27,9 @@ pub struct Requests {
 pub fn ask_ad(r: Requests, last: bool, held: u16) -> Requests
     ensures { λ s. ⌜ s ≡ askedAd r last held ⌝ }
 {
-    let enough = !r.fifoen | (held >= 2 * (r.threshold as u16));
+    let enough = (r.fifoen != 1) | (held >= 2 * (r.threshold as u16));
     let mut flags = r.flags;
-    flags.adint = r.flags.adint | (r.adinte & last & enough);
+    flags.adint = ((r.flags.adint == 1) | ((r.adinte == 1) & last & enough)) as u8;
     let mut next = r;
     next.flags = flags;
     next
@@ -39,7 +40,7 @@ pub fn ask_latch(r: Requests, rose: bool) -> Requests
     ensures { λ s. ⌜ s ≡ askedLatch r rose ⌝ }
 {
     let mut flags = r.flags;
-    flags.dint = r.flags.dint | (r.dinte & rose);
+    flags.dint = ((r.flags.dint == 1) | ((r.dinte == 1) & rose)) as u8;
     let mut next = r;
     next.flags = flags;
     next
@@ -50,7 +51,7 @@ pub fn ask_timer(r: Requests, fell: bool) -> Requests
     ensures { λ s. ⌜ s ≡ askedTimer r fell ⌝ }
 {
     let mut flags = r.flags;
-    flags.tint = r.flags.tint | (r.tinte & fell);
+    flags.tint = ((r.flags.tint == 1) | ((r.tinte == 1) & fell)) as u8;
     let mut next = r;
     next.flags = flags;
     next
@@ -61,9 +62,9 @@ pub fn clear(r: Requests) -> Requests
     ensures { λ s. ⌜ s ≡ cleared r ⌝ }
 {
     let flags = Flags {
-        adint: false,
-        dint: false,
-        tint: false,
+        adint: 0,
+        dint: 0,
+        tint: 0,
     };
     let mut next = r;
     next.flags = flags;
@@ -84,7 +85,7 @@ pub fn write_fifoen(r: Requests, byte: u8) -> Requests
     ensures { λ s. ⌜ s ≡ writtenFifoen r byte ⌝ }
 {
     let mut next = r;
-    next.fifoen = byte / 8 % 2 == 1;
+    next.fifoen = byte / 8 % 2;
     next
 }
 
@@ -100,10 +101,10 @@ pub fn write_enables(r: Requests, byte: u8) -> Requests
     ensures { λ s. ⌜ s ≡ writtenEnables r byte ⌝ }
 {
     let mut next = r;
-    next.adinte = byte / 128 % 2 == 1;
-    next.dinte = byte / 64 % 2 == 1;
-    next.tinte = byte / 32 % 2 == 1;
-    next.clksel = byte % 2 == 1;
+    next.adinte = byte / 128 % 2;
+    next.dinte = byte / 64 % 2;
+    next.tinte = byte / 32 % 2;
+    next.clksel = byte % 2;
     next
 }
 
@@ -111,7 +112,7 @@ pub fn write_enables(r: Requests, byte: u8) -> Requests
 pub fn mode_bits(c: Converter, r: Requests) -> u8
     ensures { λ s. ⌜ s ≡ modeBits c r ⌝ }
 {
-    base::weight(r.fifoen, 8) + base::weight(c.scanen, 4)
+    base::weight(r.fifoen == 1, 8) + base::weight(c.scanen == 1, 4)
 }
 
 // The byte read at 9: ADINT, DINT, TINT, CLKEN, CLKSEL.
@@ -119,11 +120,11 @@ pub fn request_bits(c: Converter, r: Requests) -> u8
     ensures { λ s. ⌜ s ≡ requestBits c r ⌝ }
 {
     let flags = r.flags;
-    base::weight(flags.adint, 128)
-        + base::weight(flags.dint, 64)
-        + base::weight(flags.tint, 32)
-        + base::weight(c.clken, 2)
-        + base::weight(r.clksel, 1)
+    base::weight(flags.adint == 1, 128)
+        + base::weight(flags.dint == 1, 64)
+        + base::weight(flags.tint == 1, 32)
+        + base::weight(c.clken == 1, 2)
+        + base::weight(r.clksel == 1, 1)
 }
 
 // A fresh board's record, and any board's after RESETA or RESETD.
@@ -131,17 +132,31 @@ pub fn fresh_requests() -> Requests
     ensures { λ s. ⌜ s ≡ freshRequests ⌝ }
 {
     let flags = Flags {
-        adint: false,
-        dint: false,
-        tint: false,
+        adint: 0,
+        dint: 0,
+        tint: 0,
     };
     Requests {
         threshold: 0,
-        fifoen: false,
-        clksel: false,
-        adinte: false,
-        dinte: false,
-        tinte: false,
+        fifoen: 0,
+        clksel: 0,
+        adinte: 0,
+        dinte: 0,
+        tinte: 0,
         flags,
     }
+}
+
+// Whether every flag is 0 or 1.
+pub fn is_working(r: Requests) -> bool
+    ensures { λ s. ⌜ s ≡ requestsWork r ⌝ }
+{
+    (r.fifoen <= 1)
+        & (r.clksel <= 1)
+        & (r.adinte <= 1)
+        & (r.dinte <= 1)
+        & (r.tinte <= 1)
+        & (r.flags.adint <= 1)
+        & (r.flags.dint <= 1)
+        & (r.flags.tint <= 1)
 }

@@ -3,7 +3,7 @@
 ghost use Rattle.scans.specs.Scans.{WholePart};
 
 // The leading part of the samples that holds whole scans of the channels from low to high.
-pub fn whole_scans(samples: &[i16], low: u8, high: u8) -> &[i16]
+pub fn whole_scans(samples: &[i16], low: u32, high: u32) -> &[i16]
     ensures { λ r. ⌜ WholePart (now (samples .entry)) low high (now r) ⌝ }
 {
     if ranges::is_bad_range(low, high) {

@@ -2,6 +2,7 @@
 -- counter 0 has a gate of its own, counters 1 and 2 share one. The specification: "A falling OUT1 clocks counter 2, whether a tick or a write
 -- caused it."
 use mathlib.Core.Bool.{Bool, true, false, not, _&&_, _||_}
+use Rattle.base.specs.Flags.{on}
 use Rattle.base.specs.Choice.{if_then_else_}
 use Rattle.counting.specs.Counter.{unprogrammed, pulsed, gateMoved}
 use Rattle.counting.specs.declared.Counter.{Counter}
@@ -25,7 +26,7 @@ gateOf g Counter1 = g .gate12
 gateOf g Counter2 = g .gate12
 
 abbrev pub out : Timer → Select → Bool
-out t s = counterOf t s .count .out
+out t s = on (counterOf t s .count .out)
 
 -- a level goes from high to low
 abbrev pub fell : Bool → Bool → Bool

@@ -62,7 +62,7 @@ pub fn out_of(t: Timer, s: Select) -> bool
     ensures { λ r. ⌜ r ≡ out t s ⌝ }
 {
     let c = counter_of(t, s);
-    c.count.out
+    c.count.out == 1
 }
 
 // Whether a level went from high to low.
@@ -99,7 +99,10 @@ fn cascade(before: Timer, after: Timer, g: Gates) -> Timer
 {
     let c = after.counter2;
     let mut u = after;
-    if has_fallen(before.counter1.count.out, after.counter1.count.out) {
+    if has_fallen(
+        before.counter1.count.out == 1,
+        after.counter1.count.out == 1,
+    ) {
         u.counter2 = counting::pulse(c, g.gate12);
         u
     } else {

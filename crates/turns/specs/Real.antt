@@ -5,6 +5,7 @@ use mathlib.Core.Bool.{Bool, _&&_}
 use mathlib.Core.List.{List}
 use mathlib.Core.Option.{none}
 use lib.Dec.{eqb}
+use Rattle.base.specs.Flags.{on}
 use Rattle.base.specs.Choice.{if_then_else_}
 use Rattle.fifo.specs.Queue.{queue}
 use Rattle.machine.specs.declared.Board.{Board}
@@ -44,7 +45,7 @@ real =
           };
       answered = λ l ev. stepOf (l .board) (l .memory) (l .eeprom) ev .answer;
       view = λ l.
-          record { converter = l .board .converter; held = queue (l .board .fifo) (l .memory); ovf = l .board .fifo .ovf };
+          record { converter = l .board .converter; held = queue (l .board .fifo) (l .memory); ovf = on (l .board .fifo .ovf) };
       begins = λ l ev. takes l ev && conversions.begins (l .board) ev;
       ends = λ l ev. if takes l ev then conversions.codeIn ev else none;
     }

@@ -37,9 +37,16 @@ pub fn event_of(access: Access) -> Asked
     ensures { λ r. ⌜ r ≡ eventOf access ⌝ }
 {
     match access {
-        Access::WriteByte { offset, value } => Asked::Made(Event::WriteByte { offset, value }),
-        Access::ReadByte { offset } => Asked::Made(Event::ReadByte { offset }),
-        Access::ReadWord { offset } => Asked::Made(Event::ReadWord { offset }),
+        Access::WriteByte { offset, value } => Asked::Made(Event::WriteByte {
+            offset: offset as u32,
+            value,
+        }),
+        Access::ReadByte { offset } => Asked::Made(Event::ReadByte {
+            offset: offset as u32,
+        }),
+        Access::ReadWord { offset } => Asked::Made(Event::ReadWord {
+            offset: offset as u32,
+        }),
         Access::NoAccess(number) => Asked::NotMade(number),
     }
 }

@@ -30,8 +30,8 @@ fn perform(board: &mut Board, memory: &mut [u16], eeprom: &mut [u8], event: &Eve
             return Answer::Word(u16::from_le_bytes([low, high]));
         }
         Event::ConversionEnd { code } => board.conversion_end(memory, code),
-        Event::Din { lines } => board.din_pins(lines),
-        Event::Latch { high } => board.latch_pin(high),
+        Event::Din { lines } => board.din_pins(lines as u8),
+        Event::Latch { level } => board.latch_pin(level != 0),
         Event::PortPins { port, pins } => board.port_pins(port, pins),
         Event::Tick => board.tick(),
         Event::TransferEnd => board.calibration.transfer_end(eeprom),
@@ -56,18 +56,20 @@ fn refusal_of(board: &Board, event: &Event) -> Option<u8> {
         Event::ReadByte { offset } => when(offset > 15, refusal::OFFSET)
             .or_else(|| when(offset == 15 && board.registers.page == 2, refusal::NOT_MODELLED)),
         Event::ReadWord { offset } => when(offset != 0, refusal::OFFSET),
-        Event::ConversionEnd { .. } => when(!board.converter.converting, refusal::NO_CONVERSION),
+        Event::ConversionEnd { .. } => {
+            when(board.converter.converting == 0, refusal::NO_CONVERSION)
+        }
         Event::Din { lines } => when(lines > 15, refusal::DIN),
         Event::TransferEnd => when(!board.calibration.is_busy(), refusal::NO_TRANSFER),
         Event::Latch { .. } | Event::PortPins { .. } | Event::Tick => None,
     }
 }
 
-fn refusal_of_write(board: &Board, offset: u8, value: u8) -> Option<u8> {
+fn refusal_of_write(board: &Board, offset: u32, value: u8) -> Option<u8> {
     match (board.registers.page, offset) {
         (_, 4 | 5) => when(board.outputs.busy != 0, refusal::BUSY),
         (0, 12..=14) => {
-            let counter = board.counter(usize::from(offset - 12));
+            let counter = board.counter(offset as usize - 12);
             when(counter.refuses(value), refusal::NOT_MODELLED)
         }
         (0, 15) => when(Command::of_byte(value) == Command::NotModelled, refusal::NOT_MODELLED),
@@ -75,7 +77,7 @@ fn refusal_of_write(board: &Board, offset: u8, value: u8) -> Option<u8> {
         (2, 15) => Some(refusal::NOT_MODELLED),
         (3, 12..=14) if board.calibration.is_busy() => Some(refusal::BUSY),
         (3, 14) => when(commands_in(value) > 1, refusal::COMMANDS)
-            .or_else(|| when(value & EE_EN != 0 && !board.calibration.key, refusal::NO_KEY)),
+            .or_else(|| when(value & EE_EN != 0 && board.calibration.key == 0, refusal::NO_KEY)),
         _ => None,
     }
 }

@@ -8,14 +8,14 @@ const RESETA: u8 = 0x20;
 const RESETD: u8 = 0x10;
 const INTRST: u8 = 0x08;
 
-fn bit(value: bool, number: u8) -> u8 {
-    u8::from(value) << number
+fn bit(value: impl Into<u8>, number: u8) -> u8 {
+    value.into() << number
 }
 
 impl Board {
-    pub fn write_byte(&mut self, memory: &mut [u16], offset: u8, value: u8) {
+    pub fn write_byte(&mut self, memory: &mut [u16], offset: u32, value: u8) {
         match offset {
-            0 if !self.converter.clken => self.trigger(),
+            0 if self.converter.clken == 0 => self.trigger(),
             0 => {}
             1 => self.registers.dout = value & 7,
             2 => {
@@ -38,10 +38,10 @@ impl Board {
         }
     }
 
-    fn write_paged(&mut self, offset: u8, value: u8) {
+    fn write_paged(&mut self, offset: u32, value: u8) {
         match (self.registers.page, offset) {
             (0, 15) => self.write_control_word(value),
-            (0, _) => self.write_counter(usize::from(offset - 12), value),
+            (0, _) => self.write_counter(offset as usize - 12, value),
             (1, _) => self.ports.write(offset, value),
             (3, _) => self.calibration.write(offset, value),
             _ => {}
@@ -50,14 +50,14 @@ impl Board {
 
     fn load_output(&mut self, value: u8) {
         let code = u16::from(value & 15) << 8 | u16::from(self.outputs.lsb);
-        self.outputs.load = Load { loaded: true, channel: value >> 6, code };
+        self.outputs.load = Load { loaded: 1, channel: value >> 6, code };
         self.outputs.busy = DACBUSY_TICKS;
     }
 
     /// Reading Base + 5: the channel that was loaded last takes its code.
     fn update_output(&mut self) {
         let load = self.outputs.load;
-        if !load.loaded || self.outputs.busy != 0 {
+        if load.loaded == 0 || self.outputs.busy != 0 {
             return;
         }
         let codes = &mut self.outputs.codes;
@@ -70,8 +70,8 @@ impl Board {
     }
 
     fn write_fifo_control(&mut self, memory: &mut [u16], value: u8) {
-        self.requests.fifoen = value & 8 != 0;
-        self.converter.scanen = value & 4 != 0;
+        self.requests.fifoen = value >> 3 & 1;
+        self.converter.scanen = value >> 2 & 1;
         if value & 2 != 0 {
             self.empty_memory(memory);
         }
@@ -85,16 +85,16 @@ impl Board {
             self.requests.flags = Flags::default();
         } else {
             self.registers.page = value & 3;
-            self.calibration.key = false;
+            self.calibration.key = 0;
         }
     }
 
     fn write_operation(&mut self, value: u8) {
-        self.requests.adinte = value & 0x80 != 0;
-        self.requests.dinte = value & 0x40 != 0;
-        self.requests.tinte = value & 0x20 != 0;
-        self.converter.clken = value & 2 != 0;
-        self.requests.clksel = value & 1 != 0;
+        self.requests.adinte = value >> 7;
+        self.requests.dinte = value >> 6 & 1;
+        self.requests.tinte = value >> 5 & 1;
+        self.converter.clken = value >> 1 & 1;
+        self.requests.clksel = value & 1;
     }
 
     /// RESETA or RESETD: counters, dividers, pins, TrimDAC and EEPROM remain.
@@ -104,7 +104,7 @@ impl Board {
         self.requests = Requests::default();
         self.empty_memory(memory);
         let codes = if outputs_too {
-            codes_after_reseta(self.wiring.zeroscale)
+            codes_after_reseta(self.wiring.zeroscale == 1)
         } else {
             self.outputs.codes
         };
@@ -114,7 +114,7 @@ impl Board {
         self.calibration = Calibration { trim, ..Calibration::default() };
     }
 
-    pub fn read_byte(&mut self, memory: &mut [u16], offset: u8) -> u8 {
+    pub fn read_byte(&mut self, memory: &mut [u16], offset: u32) -> u8 {
         match offset {
             0 => self.oldest(memory) as u8,
             1 => {
@@ -142,10 +142,10 @@ impl Board {
         }
     }
 
-    fn read_paged(&mut self, offset: u8) -> u8 {
+    fn read_paged(&mut self, offset: u32) -> u8 {
         match (self.registers.page, offset) {
             (0, 15) => 0,
-            (0, _) => self.counter_mut(usize::from(offset - 12)).read(),
+            (0, _) => self.counter_mut(offset as usize - 12).read(),
             (1, _) => self.ports.read(offset),
             (3, _) => self.calibration.read(offset),
             _ => 0,
@@ -157,7 +157,7 @@ impl Board {
         bit(held == 0, 7)
             | bit(held >= 256, 6)
             | bit(held == 512, 5)
-            | bit(self.fifo.ovf, 4)
+            | bit(self.fifo.ovf == 1, 4)
             | bit(self.requests.fifoen, 3)
             | bit(self.converter.scanen, 2)
             | self.registers.page

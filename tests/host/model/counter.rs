@@ -89,10 +89,10 @@ impl Counter {
     /// A control word: OUT takes its first level, the rest is as never written.
     pub fn program(&mut self, control: u8) {
         self.control = control;
-        self.trigger = false;
+        self.trigger = 0;
         self.bytes = CounterBytes::default();
         self.count = Count::default();
-        self.count.out = self.mode() == Some(Mode::RateGenerator);
+        self.count.out = u8::from(self.mode() == Some(Mode::RateGenerator));
     }
 
     /// The whole count that a byte completes; none for the first byte of two.
@@ -100,7 +100,7 @@ impl Counter {
         match self.format() {
             Format::Low => Some(u16::from(byte)),
             Format::High => Some(u16::from(byte) << 8),
-            Format::LowThenHigh if self.bytes.halfwritten => {
+            Format::LowThenHigh if self.bytes.halfwritten == 1 => {
                 Some(u16::from(byte) << 8 | u16::from(self.bytes.first))
             }
             Format::LowThenHigh => None,
@@ -118,18 +118,18 @@ impl Counter {
     pub fn write(&mut self, byte: u8) {
         let terminal = self.mode() == Some(Mode::InterruptOnTerminalCount);
         if terminal {
-            self.count.out = false;
+            self.count.out = 0;
         }
         match self.whole_count(byte) {
             Some(count) => {
                 self.count.count_register = count;
                 self.bytes.first = 0;
-                self.bytes.halfwritten = false;
-                self.count.waiting = terminal || !self.count.loaded;
+                self.bytes.halfwritten = 0;
+                self.count.waiting = u8::from(terminal || self.count.loaded == 0);
             }
             None => {
                 self.bytes.first = byte;
-                self.bytes.halfwritten = true;
+                self.bytes.halfwritten = 1;
             }
         }
     }
@@ -145,36 +145,36 @@ impl Counter {
 
     /// Loading needs no gate. The first byte of two stops counting.
     fn clock_mode0(&mut self, gate: bool) {
-        self.trigger = false;
-        if self.count.waiting {
+        self.trigger = 0;
+        if self.count.waiting == 1 {
             self.load();
-            self.count.out = false;
-        } else if self.count.loaded && gate && !self.bytes.halfwritten {
+            self.count.out = 0;
+        } else if self.count.loaded == 1 && gate && self.bytes.halfwritten == 0 {
             self.count.element = self.count.element.wrapping_sub(1);
             if self.count.element == 0 {
-                self.count.out = true;
+                self.count.out = 1;
             }
         }
     }
 
     /// The first count is loaded without regard to the gate; so is a reload that a gate asked for.
     fn clock_mode2(&mut self, gate: bool) {
-        let triggered = self.trigger;
-        self.trigger = false;
-        let reload_due = self.count.loaded && (triggered || (gate && self.count.element == 1));
-        if self.count.waiting || reload_due {
+        let triggered = self.trigger == 1;
+        self.trigger = 0;
+        let reload_due = self.count.loaded == 1 && (triggered || (gate && self.count.element == 1));
+        if self.count.waiting == 1 || reload_due {
             self.load();
-            self.count.out = true;
-        } else if self.count.loaded && gate {
+            self.count.out = 1;
+        } else if self.count.loaded == 1 && gate {
             self.count.element = self.count.element.wrapping_sub(1);
-            self.count.out = self.count.element != 1;
+            self.count.out = u8::from(self.count.element != 1);
         }
     }
 
     fn load(&mut self) {
         self.count.element = self.count.count_register;
-        self.count.waiting = false;
-        self.count.loaded = true;
+        self.count.waiting = 0;
+        self.count.loaded = 1;
     }
 
     /// The gate moves: in mode 2 its fall raises OUT and its rise sets the flip-flop.
@@ -183,17 +183,17 @@ impl Counter {
             return;
         }
         if after {
-            self.trigger = true;
+            self.trigger = 1;
         } else {
-            self.count.out = true;
+            self.count.out = 1;
         }
     }
 
     /// The counter latch command: a count that is latched already stays.
     pub fn latch_count(&mut self) {
-        if self.is_programmed() && !self.bytes.latched {
+        if self.is_programmed() && self.bytes.latched == 0 {
             self.bytes.latch = self.count.element;
-            self.bytes.latched = true;
+            self.bytes.latched = 1;
         }
     }
 
@@ -202,18 +202,18 @@ impl Counter {
         if !self.is_programmed() {
             return 0;
         }
-        let count = if self.bytes.latched { self.bytes.latch } else { self.count.element };
+        let count = if self.bytes.latched == 1 { self.bytes.latch } else { self.count.element };
         let [low, high] = count.to_le_bytes();
         let two_bytes = self.format() == Format::LowThenHigh;
         let low_is_next = match self.format() {
             Format::Low => true,
             Format::High => false,
-            Format::LowThenHigh => !self.bytes.halfread,
+            Format::LowThenHigh => self.bytes.halfread == 0,
         };
-        self.bytes.halfread = two_bytes && low_is_next;
-        if !self.bytes.halfread {
+        self.bytes.halfread = u8::from(two_bytes && low_is_next);
+        if self.bytes.halfread == 0 {
             self.bytes.latch = 0;
-            self.bytes.latched = false;
+            self.bytes.latched = 0;
         }
         if low_is_next {
             low

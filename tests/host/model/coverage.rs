@@ -2,11 +2,11 @@
 
 use crate::compare::Outcome;
 use crate::counter::Mode;
+use crate::damage::Damages;
 use crate::event::Event;
-use crate::fields::{field_name, is_ranged, FIELD_COUNT};
 use crate::pages::{commands_in, transfer_of, NO_TRANSFER};
 use crate::record::Board;
-use crate::step::{Change, Step};
+use crate::step::Step;
 use std::collections::BTreeMap;
 
 /// What a run must reach besides the refusals and the damaged fields.
@@ -60,8 +60,7 @@ const CANNOT_HAPPEN: &str = "conversion begun by OUT2, a pin";
 pub struct Coverage {
     reached: BTreeMap<&'static str, u64>,
     refusals: [u64; 32],
-    damaged: BTreeMap<usize, u64>,
-    free_place: u64,
+    damages: Damages,
     pub events: u64,
 }
 
@@ -79,7 +78,9 @@ impl Coverage {
         if outcome.answer >> 29 == 3 {
             let refusal = outcome.answer >> 24 & 31;
             self.refusals[refusal as usize] += 1;
-            self.count_damage(step, refusal);
+            if refusal == 1 {
+                self.damages.count(&step.changes, before);
+            }
             self.reach_refused_commands(&step.event, before, refusal);
             return;
         }
@@ -91,17 +92,9 @@ impl Coverage {
         self.reach_clocks(&step.event, before, after);
     }
 
-    fn count_damage(&mut self, step: &Step, refusal: u32) {
-        match (refusal, step.changes.as_slice()) {
-            (1, [Change::Field { field, .. }]) => *self.damaged.entry(*field).or_insert(0) += 1,
-            (1, [Change::Place { .. }]) => self.free_place += 1,
-            _ => {}
-        }
-    }
-
     fn reach_refused_commands(&mut self, event: &Event, before: &Board, refusal: u32) {
         if let (Event::WriteByte { value, .. }, 8) = (event, refusal) {
-            debug_assert!(commands_in(*value) == 1 && !before.calibration.key);
+            debug_assert!(commands_in(*value) == 1 && before.calibration.key == 0);
             self.reach("EEPROM read refused, without key", transfer_of(*value) == 1);
             self.reach("EEPROM write refused, without key", transfer_of(*value) == 2);
         }
@@ -110,7 +103,7 @@ impl Coverage {
     fn reach_samples(&mut self, event: &Event, before: &Board, after: &Board) {
         let emptied = before.fifo.held > 0 && after.fifo.held == 0;
         self.reach("512 held", before.fifo.held != 512 && after.fifo.held == 512);
-        self.reach("OVF set", !before.fifo.ovf && after.fifo.ovf);
+        self.reach("OVF set", before.fifo.ovf < after.fifo.ovf);
         match *event {
             Event::WriteByte { offset: 7, .. } => {
                 self.reach("sample memory emptied by FIFORST", emptied)
@@ -119,7 +112,7 @@ impl Coverage {
                 self.reach("sample memory emptied by a reset", emptied)
             }
             Event::ConversionEnd { .. } => {
-                self.reach("an end in mid-scan", after.converter.converting)
+                self.reach("an end in mid-scan", after.converter.converting == 1)
             }
             _ => {}
         }
@@ -127,8 +120,8 @@ impl Coverage {
 
     fn reach_begun(&mut self, event: &Event, before: &Board, after: &Board) {
         let ended = matches!(event, Event::ConversionEnd { .. });
-        let begun = after.converter.converting && (ended || !before.converter.converting);
-        let internal = before.requests.clksel;
+        let begun = after.converter.converting == 1 && (ended || before.converter.converting == 0);
+        let internal = before.requests.clksel == 1;
         if begun {
             let by = match *event {
                 Event::WriteByte { offset: 0, .. } => "conversion begun by software",
@@ -143,7 +136,8 @@ impl Coverage {
             self.reach("low above high at a conversion", above);
         }
         if let Event::Din { lines } = *event {
-            let clocked = before.converter.clken && !internal && !before.converter.converting;
+            let enabled = before.converter.clken == 1 && !internal;
+            let clocked = enabled && before.converter.converting == 0;
             let falls = before.pins.din & 8 != 0 && lines & 8 == 0;
             self.reach("trigger stopped by DIN2", clocked && falls && !begun);
         }
@@ -154,10 +148,10 @@ impl Coverage {
         let begun = match (runs, after.calibration.key) {
             (1, _) => "EEPROM read begun, with key",
             (2, _) => "EEPROM write begun, with key",
-            (3, true) => "RUNCAL begun, with key",
-            (3, false) => "RUNCAL begun, without key",
-            (_, true) => "TrimDAC transfer begun, with key",
-            (_, false) => "TrimDAC transfer begun, without key",
+            (3, 1) => "RUNCAL begun, with key",
+            (3, _) => "RUNCAL begun, without key",
+            (_, 1) => "TrimDAC transfer begun, with key",
+            (_, _) => "TrimDAC transfer begun, without key",
         };
         self.reach(begun, was == NO_TRANSFER && runs != NO_TRANSFER);
         let ended = match was {
@@ -188,24 +182,24 @@ impl Coverage {
             let low = ["gate low at a tick, mode 0", "gate low at a tick, mode 2"];
             self.reach(
                 low[usize::from(mode2)],
-                *event == Event::Tick && counter.count.loaded && !was,
+                *event == Event::Tick && counter.count.loaded == 1 && !was,
             );
-            let out_raised = mode2 && was && !is && !counter.count.out;
+            let out_raised = mode2 && was && !is && counter.count.out == 0;
             self.reach("gate falling with OUT low, mode 2", out_raised);
         }
     }
 
     fn reach_requests(&mut self, event: &Event, before: &Board, after: &Board) {
         let (was, is) = (&before.requests.flags, &after.requests.flags);
-        self.reach("ADINT set", !was.adint && is.adint);
-        self.reach("ADINT set at a lost end", !was.adint && is.adint && after.fifo.ovf);
-        self.reach("DINT set", !was.dint && is.dint);
+        self.reach("ADINT set", was.adint < is.adint);
+        self.reach("ADINT set at a lost end", was.adint < is.adint && after.fifo.ovf == 1);
+        self.reach("DINT set", was.dint < is.dint);
         let by = match event {
             Event::Tick => "TINT set by a tick",
             Event::Din { .. } => "TINT set by a pin",
             _ => "TINT set by a write",
         };
-        self.reach(by, !was.tint && is.tint);
+        self.reach(by, was.tint < is.tint);
     }
 
     fn reach_clocks(&mut self, event: &Event, before: &Board, after: &Board) {
@@ -229,11 +223,7 @@ impl Coverage {
         for refusal in 1..=10 {
             counts.push((format!("refusal {refusal}"), self.refusals[refusal]));
         }
-        for field in (0..FIELD_COUNT).filter(|&field| is_ranged(field)) {
-            let name = format!("{} out of range", field_name(field));
-            counts.push((name, *self.damaged.get(&field).unwrap_or(&0)));
-        }
-        counts.push(("free place not 0".to_string(), self.free_place));
+        counts.extend(self.damages.list());
         for (name, count) in &counts {
             println!("{count:>9}  {name}{}", if *count == 0 { "  <- not reached" } else { "" });
         }

@@ -13,12 +13,12 @@ pub enum Port {
 /// One event.
 #[derive(Clone, Copy, Debug, PartialEq, Eq)]
 pub enum Event {
-    WriteByte { offset: u8, value: u8 },
-    ReadByte { offset: u8 },
-    ReadWord { offset: u8 },
+    WriteByte { offset: u32, value: u8 },
+    ReadByte { offset: u32 },
+    ReadWord { offset: u32 },
     ConversionEnd { code: i16 },
-    Din { lines: u8 },
-    Latch { high: bool },
+    Din { lines: u32 },
+    Latch { level: u32 },
     PortPins { port: Port, pins: u8 },
     Tick,
     TransferEnd,
@@ -80,7 +80,7 @@ impl fmt::Display for Event {
             Event::ReadWord { offset } => write!(out, "read word {offset}"),
             Event::ConversionEnd { code } => write!(out, "conversion end, code {code}"),
             Event::Din { lines } => write!(out, "DIN {lines} ({lines:04b})"),
-            Event::Latch { high } => write!(out, "Latch {}", u8::from(high)),
+            Event::Latch { level } => write!(out, "Latch {level}"),
             Event::PortPins { port, pins } => write!(out, "pins of port {port:?} {pins:02X}"),
             Event::Tick => write!(out, "tick"),
             Event::TransferEnd => write!(out, "transfer end"),

@@ -2,106 +2,117 @@
 
 use crate::record::{Board, Counter};
 
+/// What a working board has in a field.
+#[derive(Clone, Copy, PartialEq, Eq)]
+pub enum Kind {
+    /// Any number.
+    Any,
+    /// Some of the numbers.
+    Ranged,
+    /// 0 or 1.
+    Flag,
+    /// 0 or 1, and in some boards only one of them.
+    BoundFlag,
+}
+
+impl Kind {
+    pub fn is_flag(self) -> bool {
+        matches!(self, Kind::Flag | Kind::BoundFlag)
+    }
+}
+
 /// A field of T with a name, and how it takes a number.
 pub struct Field<T> {
     pub name: &'static str,
-    /// Whether a working board has only some of its values there.
-    pub ranged: bool,
+    pub kind: Kind,
     pub set: fn(&mut T, u16),
+    pub get: fn(&T) -> u16,
 }
 
 macro_rules! number {
-    ($ranged:literal, $($part:ident).+) => {
+    ($kind:ident, $($part:ident).+) => {
         Field {
             name: stringify!($($part).+),
-            ranged: $ranged,
+            kind: Kind::$kind,
             set: |place, value| place.$($part).+ = value as _,
-        }
-    };
-}
-
-macro_rules! level {
-    ($ranged:literal, $($part:ident).+) => {
-        Field {
-            name: stringify!($($part).+),
-            ranged: $ranged,
-            set: |place, value| place.$($part).+ = value & 1 != 0,
+            get: |place| place.$($part).+ as u16,
         }
     };
 }
 
 /// The fields outside the counters.
 pub static BOARD_FIELDS: [Field<Board>; 50] = [
-    number!(true, converter.low),
-    number!(true, converter.high),
-    number!(true, converter.selected),
-    number!(true, converter.channel),
-    level!(false, converter.converting),
-    level!(false, converter.scanen),
-    level!(false, converter.clken),
-    number!(false, requests.threshold),
-    level!(false, requests.fifoen),
-    level!(false, requests.clksel),
-    level!(false, requests.adinte),
-    level!(false, requests.dinte),
-    level!(false, requests.tinte),
-    level!(false, requests.flags.adint),
-    level!(false, requests.flags.dint),
-    level!(false, requests.flags.tint),
-    number!(true, fifo.held),
-    level!(true, fifo.ovf),
-    number!(true, registers.page),
-    number!(true, registers.dout),
-    number!(false, registers.counting),
-    number!(true, registers.range),
-    number!(true, outputs.codes.out0),
-    number!(true, outputs.codes.out1),
-    number!(true, outputs.codes.out2),
-    number!(true, outputs.codes.out3),
-    level!(false, outputs.load.loaded),
-    number!(true, outputs.load.channel),
-    number!(true, outputs.load.code),
-    number!(false, outputs.lsb),
-    number!(true, outputs.busy),
-    number!(true, clocks.hundred),
-    number!(true, clocks.thousand),
-    number!(true, ports.control),
-    number!(false, ports.latches.a),
-    number!(false, ports.latches.b),
-    number!(false, ports.latches.c),
-    number!(false, ports.pins.a),
-    number!(false, ports.pins.b),
-    number!(false, ports.pins.c),
-    number!(false, calibration.value),
-    number!(true, calibration.address),
-    number!(true, calibration.transfer),
-    level!(false, calibration.key),
-    level!(false, calibration.cmuxen),
+    number!(Ranged, converter.low),
+    number!(Ranged, converter.high),
+    number!(Ranged, converter.selected),
+    number!(Ranged, converter.channel),
+    number!(Flag, converter.converting),
+    number!(Flag, converter.scanen),
+    number!(Flag, converter.clken),
+    number!(Any, requests.threshold),
+    number!(Flag, requests.fifoen),
+    number!(Flag, requests.clksel),
+    number!(Flag, requests.adinte),
+    number!(Flag, requests.dinte),
+    number!(Flag, requests.tinte),
+    number!(Flag, requests.flags.adint),
+    number!(Flag, requests.flags.dint),
+    number!(Flag, requests.flags.tint),
+    number!(Ranged, fifo.held),
+    number!(BoundFlag, fifo.ovf),
+    number!(Ranged, registers.page),
+    number!(Ranged, registers.dout),
+    number!(Any, registers.counting),
+    number!(Ranged, registers.range),
+    number!(Ranged, outputs.codes.out0),
+    number!(Ranged, outputs.codes.out1),
+    number!(Ranged, outputs.codes.out2),
+    number!(Ranged, outputs.codes.out3),
+    number!(Flag, outputs.load.loaded),
+    number!(Ranged, outputs.load.channel),
+    number!(Ranged, outputs.load.code),
+    number!(Any, outputs.lsb),
+    number!(Ranged, outputs.busy),
+    number!(Ranged, clocks.hundred),
+    number!(Ranged, clocks.thousand),
+    number!(Ranged, ports.control),
+    number!(Any, ports.latches.a),
+    number!(Any, ports.latches.b),
+    number!(Any, ports.latches.c),
+    number!(Any, ports.pins.a),
+    number!(Any, ports.pins.b),
+    number!(Any, ports.pins.c),
+    number!(Any, calibration.value),
+    number!(Ranged, calibration.address),
+    number!(Ranged, calibration.transfer),
+    number!(Flag, calibration.key),
+    number!(Flag, calibration.cmuxen),
     Field {
         name: "calibration.trim",
-        ranged: false,
+        kind: Kind::Any,
+        get: |board| u16::from(board.calibration.trim[0]),
         set: |board, value| board.calibration.trim[usize::from(value % 8)] = (value >> 8) as u8,
     },
-    number!(true, pins.din),
-    level!(false, pins.latch),
-    number!(true, wiring.inputs),
-    level!(false, wiring.zeroscale),
+    number!(Ranged, pins.din),
+    number!(Flag, pins.latch),
+    number!(Ranged, wiring.inputs),
+    number!(Flag, wiring.zeroscale),
 ];
 
 /// The fields of one counter.
 pub static COUNTER_FIELDS: [Field<Counter>; 12] = [
-    number!(true, control),
-    level!(false, trigger),
-    number!(true, count.count_register),
-    number!(false, count.element),
-    level!(true, count.out),
-    level!(false, count.waiting),
-    level!(false, count.loaded),
-    number!(false, bytes.latch),
-    level!(false, bytes.latched),
-    level!(false, bytes.halfread),
-    number!(false, bytes.first),
-    level!(false, bytes.halfwritten),
+    number!(Ranged, control),
+    number!(Flag, trigger),
+    number!(Ranged, count.count_register),
+    number!(Any, count.element),
+    number!(BoundFlag, count.out),
+    number!(Flag, count.waiting),
+    number!(Flag, count.loaded),
+    number!(Any, bytes.latch),
+    number!(Flag, bytes.latched),
+    number!(Flag, bytes.halfread),
+    number!(Any, bytes.first),
+    number!(Flag, bytes.halfwritten),
 ];
 
 /// The number of all fields: those of the board, then those of counters 0, 1 and 2.
@@ -123,16 +134,25 @@ pub fn set_field(board: &mut Board, field: usize, value: u16) {
     }
 }
 
+pub fn field_value(board: &Board, field: usize) -> u16 {
+    if field < BOARD_FIELDS.len() {
+        (BOARD_FIELDS[field].get)(board)
+    } else {
+        let (which, counter_field) = counter_field(field);
+        (counter_field.get)(board.counter(which))
+    }
+}
+
 /// The number of a field by its full name.
 pub fn field_number(name: &str) -> usize {
     (0..FIELD_COUNT).find(|&field| field_name(field) == name).expect("a field of the record")
 }
 
-pub fn is_ranged(field: usize) -> bool {
+pub fn field_kind(field: usize) -> Kind {
     if field < BOARD_FIELDS.len() {
-        BOARD_FIELDS[field].ranged
+        BOARD_FIELDS[field].kind
     } else {
-        counter_field(field).1.ranged
+        counter_field(field).1.kind
     }
 }
 

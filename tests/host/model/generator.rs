@@ -1,7 +1,7 @@
 //! Random steps: stretches of one kind of use after another, with misuse and damage in between.
 
 use crate::event::Event;
-use crate::fields::{field_number, is_ranged, FIELD_COUNT};
+use crate::fields::{field_kind, field_number, Kind, FIELD_COUNT};
 use crate::random::Random;
 use crate::step::{Change, Lent, Start, Step, EEPROM_ROOM, MEMORY_ROOM};
 use crate::uses::{Use, User};
@@ -29,7 +29,7 @@ impl Generator {
 
     /// The jumpers that a run starts with.
     pub fn start(&mut self) -> Start {
-        Start { jumpers: self.random.below(4) as u8, zero_scale: self.random.once_in(2) }
+        Start { jumpers: self.random.below(4), zero_scale: self.random.below(2) }
     }
 
     /// The next step for a board as it stands.
@@ -76,8 +76,11 @@ impl Generator {
         self.random.below(FIELD_COUNT as u32) as usize
     }
 
-    fn any_value(&mut self) -> u16 {
-        if self.random.once_in(3) {
+    /// Any number for a field; for a flag often one that it may have.
+    fn any_value(&mut self, field: usize) -> u16 {
+        if field_kind(field).is_flag() && self.random.once_in(2) {
+            self.random.below(2) as u16
+        } else if self.random.once_in(3) {
             self.random.word()
         } else {
             self.random.pick(&EDGES)
@@ -85,7 +88,8 @@ impl Generator {
     }
 
     fn any_change(&mut self) -> Change {
-        Change::Field { field: self.any_field(), value: self.any_value() }
+        let field = self.any_field();
+        Change::Field { field, value: self.any_value(field) }
     }
 
     /// A change after which the board does not work: a field out of its range, or a free place not 0.
@@ -96,10 +100,10 @@ impl Generator {
             let change = if in_memory {
                 let place = self.random.below(MEMORY_LENGTH as u32) as usize;
                 Change::Place { place, value: 1 << self.random.below(16) }
-            } else if is_ranged(field) {
-                Change::Field { field, value: self.any_value() }
-            } else {
+            } else if field_kind(field) == Kind::Any {
                 return;
+            } else {
+                Change::Field { field, value: self.any_value(field) }
             };
             if !works_after(lent, &[change]) {
                 step.changes = vec![change];

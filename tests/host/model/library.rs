@@ -10,7 +10,7 @@ mod header {
     macro_rules! events {
         ($($name:ident($($parameter:ident: $kind:ty),*);)+) => {
             extern "C" {
-                pub fn dmm32_fresh(jumpers: u8, zero_scale: bool) -> Board;
+                pub fn dmm32_fresh(jumpers: u32, zero_scale: u32) -> Board;
                 pub fn dmm32_fresh_stores(
                     memory: *mut u16,
                     memory_length: usize,
@@ -35,12 +35,12 @@ mod header {
     }
 
     events! {
-        dmm32_write_byte(offset: u8, value: u8);
-        dmm32_read_byte(offset: u8);
-        dmm32_read_word(offset: u8);
+        dmm32_write_byte(offset: u32, value: u8);
+        dmm32_read_byte(offset: u32);
+        dmm32_read_word(offset: u32);
         dmm32_conversion_end(code: i16);
-        dmm32_din(lines: u8);
-        dmm32_latch(high: bool);
+        dmm32_din(lines: u32);
+        dmm32_latch(level: u32);
         dmm32_port_a_pins(pins: u8);
         dmm32_port_b_pins(pins: u8);
         dmm32_port_c_pins(pins: u8);
@@ -50,7 +50,7 @@ mod header {
 }
 
 /// The library's fresh record.
-pub fn fresh(jumpers: u8, zero_scale: bool) -> Board {
+pub fn fresh(jumpers: u32, zero_scale: u32) -> Board {
     unsafe { header::dmm32_fresh(jumpers, zero_scale) }
 }
 
@@ -84,7 +84,7 @@ pub fn step(lent: &mut Lent, step: &Step) -> u32 {
             Event::ReadWord { offset } => call!(dmm32_read_word, offset),
             Event::ConversionEnd { code } => call!(dmm32_conversion_end, code),
             Event::Din { lines } => call!(dmm32_din, lines),
-            Event::Latch { high } => call!(dmm32_latch, high),
+            Event::Latch { level } => call!(dmm32_latch, level),
             Event::PortPins { port: Port::A, pins } => call!(dmm32_port_a_pins, pins),
             Event::PortPins { port: Port::B, pins } => call!(dmm32_port_b_pins, pins),
             Event::PortPins { port: Port::C, pins } => call!(dmm32_port_c_pins, pins),

@@ -1,14 +1,17 @@
 //! Compares the library with an independent model of the board over random events.
 //!
 //! `model SEED EVENTS [RUNS]` makes RUNS runs of EVENTS events each. After each event the answer,
-//! the whole record and both memories of library and model are compared. Exit status 0: no
-//! difference, and everything that must be reached was; 1: otherwise; 2: wrong command line.
+//! the whole record and both memories of library and model are compared. `model bytes SEED RECORDS`
+//! does so for one event on each of RECORDS records of any bytes. Exit status 0: no difference, and
+//! everything that must be reached was; 1: otherwise; 2: wrong command line.
 
 mod board;
 mod bus;
+mod bytes;
 mod compare;
 mod counter;
 mod coverage;
+mod damage;
 mod event;
 mod fields;
 mod generator;
@@ -33,8 +36,8 @@ use step::{Lent, Start, EEPROM_ROOM, MEMORY_ROOM};
 /// Fresh records of all jumpers, and fresh memories of right and wrong lengths.
 fn fresh_boards_agree() -> bool {
     let mut agree = true;
-    for jumpers in 0..=255 {
-        for zero_scale in [false, true] {
+    for jumpers in (0..=255).chain([256, 257, 259, 511, 65536, 1 << 31, u32::MAX]) {
+        for zero_scale in [0, 1, 2, 255, 256, 65536, 1 << 31, u32::MAX] {
             let start = Start { jumpers, zero_scale };
             let mut differences = Pair::fresh(start).differences();
             let lent = Lent::fresh(start);
@@ -53,7 +56,7 @@ fn fresh_boards_agree() -> bool {
 fn fresh_stores_agree() -> bool {
     let mut agree = true;
     let filled = Lent {
-        board: record::fresh(0, false),
+        board: record::fresh(0, 0),
         memory: [0x1234; MEMORY_ROOM],
         eeprom: [0x56; EEPROM_ROOM],
     };
@@ -99,30 +102,39 @@ fn run(seed: u64, events: u64, coverage: &mut Coverage) -> bool {
     true
 }
 
-/// The numbers of the command line: seed, events, runs.
-fn numbers() -> Option<(u64, u64, u64)> {
-    let given: Result<Vec<u64>, _> = std::env::args().skip(1).map(|word| word.parse()).collect();
-    match given.ok()?.as_slice() {
-        [seed, events] => Some((*seed, *events, 1)),
-        [seed, events, runs] => Some((*seed, *events, *runs)),
-        _ => None,
-    }
-}
-
-fn main() -> ExitCode {
-    let Some((seed, events, runs)) = numbers() else {
-        eprintln!("model SEED EVENTS [RUNS]");
-        return ExitCode::from(2);
-    };
+/// Fresh boards, then so many runs.
+fn runs_agree(seed: u64, events: u64, runs: u64) -> bool {
     let mut coverage = Coverage::default();
     let mut good = fresh_boards_agree();
     for number in 0..runs {
         good = good && run(seed.wrapping_add(number), events, &mut coverage);
     }
-    if good && coverage.report() {
-        println!("library and model agree");
-        ExitCode::SUCCESS
-    } else {
-        ExitCode::FAILURE
+    good && coverage.report()
+}
+
+/// What the command line asks for; none where it is wrong.
+fn agree() -> Option<bool> {
+    let words: Vec<String> = std::env::args().skip(1).collect();
+    let of_bytes = words.first().is_some_and(|word| word == "bytes");
+    let numbers = words[usize::from(of_bytes)..].iter().map(|word| word.parse());
+    match (of_bytes, numbers.collect::<Result<Vec<u64>, _>>().ok()?.as_slice()) {
+        (true, &[seed, records]) => Some(bytes::records_agree(seed, records)),
+        (false, &[seed, events]) => Some(runs_agree(seed, events, 1)),
+        (false, &[seed, events, runs]) => Some(runs_agree(seed, events, runs)),
+        _ => None,
+    }
+}
+
+fn main() -> ExitCode {
+    match agree() {
+        Some(true) => {
+            println!("library and model agree");
+            ExitCode::SUCCESS
+        }
+        Some(false) => ExitCode::FAILURE,
+        None => {
+            eprintln!("model SEED EVENTS [RUNS] | model bytes SEED RECORDS");
+            ExitCode::from(2)
+        }
     }
 }

@@ -28,7 +28,7 @@ impl Ports {
         self.latches = Lines::default();
     }
 
-    pub fn write(&mut self, offset: u8, byte: u8) {
+    pub fn write(&mut self, offset: u32, byte: u8) {
         match offset {
             12 => self.latches.a = byte,
             13 => self.latches.b = byte,
@@ -38,7 +38,7 @@ impl Ports {
     }
 
     /// Input lines read the pins, output lines the latch.
-    pub fn read(&self, offset: u8) -> u8 {
+    pub fn read(&self, offset: u32) -> u8 {
         let direction = |bit: u8, lines: u8| if self.control & bit != 0 { lines } else { 0 };
         let (inputs, pins, latch) = match offset {
             12 => (direction(0x10, 0xFF), self.pins.a, self.latches.a),
@@ -71,19 +71,19 @@ pub fn transfer_of(byte: u8) -> u8 {
 }
 
 impl Calibration {
-    pub fn write(&mut self, offset: u8, byte: u8) {
+    pub fn write(&mut self, offset: u32, byte: u8) {
         match offset {
             12 => self.value = byte,
             13 => self.address = byte & 0x7F,
             14 => {
-                self.cmuxen = byte & CMUXEN != 0;
+                self.cmuxen = u8::from(byte & CMUXEN != 0);
                 self.transfer = transfer_of(byte);
             }
-            _ => self.key = byte == KEY,
+            _ => self.key = u8::from(byte == KEY),
         }
     }
 
-    pub fn read(&self, offset: u8) -> u8 {
+    pub fn read(&self, offset: u32) -> u8 {
         match offset {
             12 => self.value,
             13 => self.address,
@@ -94,7 +94,7 @@ impl Calibration {
 
     /// TDBUSY bit 6, EEBUSY bit 5, CMUXEN bit 4, TDACEN bit 3.
     fn status(&self) -> u8 {
-        let cmuxen = if self.cmuxen { CMUXEN } else { 0 };
+        let cmuxen = if self.cmuxen == 1 { CMUXEN } else { 0 };
         let busy = match self.transfer {
             NO_TRANSFER => 0,
             TRIMDAC_WRITE => 0x40 | TDACEN,

@@ -1,4 +1,5 @@
-//! The record of a board, field by field as in the C header, and a fresh board.
+//! The record of a board, field by field as in the C header, and a fresh board. All fields are
+//! numbers, so that any bytes are a record; a flag is 0 or 1 in a working board.
 
 /// Channels and conversions.
 #[repr(C)]
@@ -8,18 +9,18 @@ pub struct Converter {
     pub high: u8,
     pub selected: u8,
     pub channel: u8,
-    pub converting: bool,
-    pub scanen: bool,
-    pub clken: bool,
+    pub converting: u8,
+    pub scanen: u8,
+    pub clken: u8,
 }
 
 /// The three request flags of Base + 9.
 #[repr(C)]
 #[derive(Clone, Copy, Debug, Default, PartialEq, Eq)]
 pub struct Flags {
-    pub adint: bool,
-    pub dint: bool,
-    pub tint: bool,
+    pub adint: u8,
+    pub dint: u8,
+    pub tint: u8,
 }
 
 /// What is requested when.
@@ -27,11 +28,11 @@ pub struct Flags {
 #[derive(Clone, Copy, Debug, Default, PartialEq, Eq)]
 pub struct Requests {
     pub threshold: u8,
-    pub fifoen: bool,
-    pub clksel: bool,
-    pub adinte: bool,
-    pub dinte: bool,
-    pub tinte: bool,
+    pub fifoen: u8,
+    pub clksel: u8,
+    pub adinte: u8,
+    pub dinte: u8,
+    pub tinte: u8,
     pub flags: Flags,
 }
 
@@ -40,7 +41,7 @@ pub struct Requests {
 #[derive(Clone, Copy, Debug, Default, PartialEq, Eq)]
 pub struct Fifo {
     pub held: u16,
-    pub ovf: bool,
+    pub ovf: u16,
 }
 
 /// Registers that stand alone.
@@ -67,7 +68,7 @@ pub struct Codes {
 #[repr(C)]
 #[derive(Clone, Copy, Debug, Default, PartialEq, Eq)]
 pub struct Load {
-    pub loaded: bool,
+    pub loaded: u8,
     pub channel: u8,
     pub code: u16,
 }
@@ -88,9 +89,9 @@ pub struct Outputs {
 pub struct Count {
     pub count_register: u16,
     pub element: u16,
-    pub out: bool,
-    pub waiting: bool,
-    pub loaded: bool,
+    pub out: u8,
+    pub waiting: u8,
+    pub loaded: u16,
 }
 
 /// The bytes of one counter on their way to and from the bus.
@@ -98,10 +99,10 @@ pub struct Count {
 #[derive(Clone, Copy, Debug, Default, PartialEq, Eq)]
 pub struct CounterBytes {
     pub latch: u16,
-    pub latched: bool,
-    pub halfread: bool,
+    pub latched: u8,
+    pub halfread: u8,
     pub first: u8,
-    pub halfwritten: bool,
+    pub halfwritten: u8,
 }
 
 /// One counter of the 82C54.
@@ -109,7 +110,7 @@ pub struct CounterBytes {
 #[derive(Clone, Copy, Debug, Default, PartialEq, Eq)]
 pub struct Counter {
     pub control: u8,
-    pub trigger: bool,
+    pub trigger: u8,
     pub count: Count,
     pub bytes: CounterBytes,
 }
@@ -157,8 +158,8 @@ pub struct Calibration {
     pub value: u8,
     pub address: u8,
     pub transfer: u8,
-    pub key: bool,
-    pub cmuxen: bool,
+    pub key: u8,
+    pub cmuxen: u8,
     pub trim: [u8; 8],
 }
 
@@ -167,7 +168,7 @@ pub struct Calibration {
 #[derive(Clone, Copy, Debug, Default, PartialEq, Eq)]
 pub struct Pins {
     pub din: u8,
-    pub latch: bool,
+    pub latch: u8,
 }
 
 /// The jumpers.
@@ -175,7 +176,7 @@ pub struct Pins {
 #[derive(Clone, Copy, Debug, Default, PartialEq, Eq)]
 pub struct Wiring {
     pub inputs: u8,
-    pub zeroscale: bool,
+    pub zeroscale: u8,
 }
 
 /// The record.
@@ -194,6 +195,20 @@ pub struct Board {
     pub wiring: Wiring,
 }
 
+/// Bytes in a record.
+pub const RECORD_LENGTH: usize = 114;
+
+impl Board {
+    /// The record that has these bytes. It has no padding, and any number may stand in each field.
+    pub fn of_bytes(bytes: [u8; RECORD_LENGTH]) -> Board {
+        unsafe { std::mem::transmute(bytes) }
+    }
+
+    pub fn bytes(self) -> [u8; RECORD_LENGTH] {
+        unsafe { std::mem::transmute(self) }
+    }
+}
+
 /// The 82C55 control byte that makes all ports inputs.
 pub const ALL_INPUTS: u8 = 0x9B;
 
@@ -203,15 +218,15 @@ pub fn codes_after_reseta(zero_scale: bool) -> Codes {
     Codes { out0: code, out1: code, out2: code, out3: code }
 }
 
-/// A fresh board with these jumpers.
-pub fn fresh(jumpers: u8, zero_scale: bool) -> Board {
+/// A fresh board with these jumpers; a number above 255 stays as 255.
+pub fn fresh(jumpers: u32, zero_scale: u32) -> Board {
     let mut board = Board::default();
-    board.outputs.codes = codes_after_reseta(zero_scale);
-    board.clocks.timer.counter0.count.out = true;
-    board.clocks.timer.counter1.count.out = true;
-    board.clocks.timer.counter2.count.out = true;
+    board.outputs.codes = codes_after_reseta(zero_scale != 0);
+    board.clocks.timer.counter0.count.out = 1;
+    board.clocks.timer.counter1.count.out = 1;
+    board.clocks.timer.counter2.count.out = 1;
     board.ports.control = ALL_INPUTS;
     board.pins.din = 15;
-    board.wiring = Wiring { inputs: jumpers, zeroscale: zero_scale };
+    board.wiring = Wiring { inputs: jumpers.min(255) as u8, zeroscale: u8::from(zero_scale != 0) };
     board
 }

@@ -6,7 +6,7 @@ use crate::working::MEMORY_LENGTH;
 impl Board {
     /// A trigger: it is lost while a conversion or scan runs.
     pub fn trigger(&mut self) {
-        if !self.converter.converting {
+        if self.converter.converting == 0 {
             self.start_conversion();
         }
     }
@@ -14,7 +14,7 @@ impl Board {
     /// A conversion of the selected channel begins, and the selection moves.
     fn start_conversion(&mut self) {
         let converter = &mut self.converter;
-        converter.converting = true;
+        converter.converting = 1;
         converter.channel = converter.selected;
         converter.selected = if converter.selected == converter.high {
             converter.low
@@ -27,10 +27,10 @@ impl Board {
     pub fn conversion_end(&mut self, memory: &mut [u16], code: i16) {
         self.keep_or_lose(memory, code as u16);
         let converter = &self.converter;
-        if converter.scanen && converter.channel != converter.high {
+        if converter.scanen != 0 && converter.channel != converter.high {
             self.start_conversion();
         } else {
-            self.converter.converting = false;
+            self.converter.converting = 0;
             self.request_after_end();
         }
     }
@@ -41,14 +41,14 @@ impl Board {
             memory[held] = sample;
             self.fifo.held += 1;
         } else {
-            self.fifo.ovf = true;
+            self.fifo.ovf = 1;
         }
     }
 
     fn request_after_end(&mut self) {
         let threshold = 2 * u16::from(self.requests.threshold);
-        let due = !self.requests.fifoen || self.fifo.held >= threshold;
-        self.requests.flags.adint |= self.requests.adinte && due;
+        let due = self.requests.fifoen == 0 || self.fifo.held >= threshold;
+        self.requests.flags.adint |= self.requests.adinte & u8::from(due);
     }
 
     /// The oldest sample; FFFF where none is held.
@@ -68,12 +68,12 @@ impl Board {
         memory.copy_within(1.., 0);
         memory[MEMORY_LENGTH - 1] = 0;
         self.fifo.held -= 1;
-        self.fifo.ovf = false;
+        self.fifo.ovf = 0;
     }
 
     pub fn empty_memory(&mut self, memory: &mut [u16]) {
         memory.fill(0);
         self.fifo.held = 0;
-        self.fifo.ovf = false;
+        self.fifo.ovf = 0;
     }
 }

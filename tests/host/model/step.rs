@@ -35,8 +35,8 @@ impl Lent {
 /// The jumpers of the fresh board that a run starts with.
 #[derive(Clone, Copy, Debug)]
 pub struct Start {
-    pub jumpers: u8,
-    pub zero_scale: bool,
+    pub jumpers: u32,
+    pub zero_scale: u32,
 }
 
 /// A change that the host makes to what it lends.
@@ -60,7 +60,7 @@ impl Change {
             Change::EepromByte { address, value } => lent.eeprom[address] = value,
             Change::Held { held, first } => {
                 lent.board.fifo.held = held;
-                lent.board.fifo.ovf = false;
+                lent.board.fifo.ovf = 0;
                 for place in 0..MEMORY_LENGTH as u16 {
                     let sample = first.wrapping_add(place.wrapping_mul(257));
                     let held_here = place < held;

@@ -59,7 +59,7 @@ impl Board {
         let counter = self.counter_mut(which);
         let out_before = counter.count.out;
         change(counter);
-        if out_before && !counter.count.out {
+        if out_before == 1 && counter.count.out == 0 {
             self.out_falls(which);
         }
     }
@@ -69,7 +69,7 @@ impl Board {
         match which {
             0 => self.requests.flags.tint |= self.requests.tinte,
             1 => self.clock_counter(2),
-            _ if self.converter.clken && self.requests.clksel => self.trigger(),
+            _ if self.converter.clken == 1 && self.requests.clksel == 1 => self.trigger(),
             _ => {}
         }
     }
@@ -119,7 +119,7 @@ impl Board {
             self.clock_counter(0);
         }
         let stopped = self.counting_bit(GT12EN) && lines & DIN2 == 0;
-        let external = self.converter.clken && !self.requests.clksel;
+        let external = self.converter.clken == 1 && self.requests.clksel == 0;
         if falling & DIN3 != 0 && external && !stopped {
             self.trigger();
         }
@@ -127,8 +127,8 @@ impl Board {
 
     /// The Latch pin takes a level.
     pub fn latch_pin(&mut self, high: bool) {
-        let rising = high && !self.pins.latch;
-        self.pins.latch = high;
-        self.requests.flags.dint |= rising && self.requests.dinte;
+        let rising = high && self.pins.latch == 0;
+        self.pins.latch = u8::from(high);
+        self.requests.flags.dint |= u8::from(rising) & self.requests.dinte;
     }
 }

@@ -57,11 +57,11 @@ pub struct User<'a> {
     pub board: &'a Board,
 }
 
-pub fn write(offset: u8, value: u8) -> Event {
+pub fn write(offset: u32, value: u8) -> Event {
     Event::WriteByte { offset, value }
 }
 
-pub fn read(offset: u8) -> Event {
+pub fn read(offset: u32) -> Event {
     Event::ReadByte { offset }
 }
 
@@ -93,14 +93,14 @@ impl User<'_> {
     /// What begins a conversion under the present clock setting, or leads towards it.
     fn start(&mut self) -> Event {
         let (clken, clksel) = (self.board.converter.clken, self.board.requests.clksel);
-        if !clken {
+        if clken == 0 {
             write(0, self.random.byte())
-        } else if clksel {
+        } else if clksel == 1 {
             Event::Tick
         } else {
             let din = self.board.pins.din;
             let lines = if self.random.once_in(4) { self.random.byte() & 15 } else { din | 4 };
-            Event::Din { lines: lines & 7 | !din & 8 }
+            Event::Din { lines: u32::from(lines & 7 | !din & 8) }
         }
     }
 
@@ -112,12 +112,12 @@ impl User<'_> {
             3 => write(7, self.random.byte() & 0x0C | self.random.pick(&[0, 0, 0, 2])),
             4 => write(9, self.random.byte() & 0xFC | self.random.pick(&[0, 0, 2, 3])),
             5 => write(6, self.random.pick(&[0, 1, 2, 3, 128, 255])),
-            6 => read(self.random.below(12) as u8),
+            6 => read(self.random.below(12)),
             7 => Event::ReadWord { offset: 0 },
             8 => read(1),
             9 => self.start(),
             10 => write(11, self.random.byte()),
-            _ if self.board.converter.converting => self.conversion_end(),
+            _ if self.board.converter.converting == 1 => self.conversion_end(),
             _ => self.start(),
         }
     }
@@ -128,8 +128,8 @@ impl User<'_> {
             1 => write(9, self.random.pick(&[0x00, 0x80])),
             2 => write(7, self.random.pick(&[0x00, 0x04, 0x08, 0x0C])),
             3 => read(self.random.pick(&[7, 8, 9])),
-            _ if self.board.converter.converting => self.conversion_end(),
-            _ if self.board.converter.clken => write(9, self.random.byte() & 0xE0),
+            _ if self.board.converter.converting == 1 => self.conversion_end(),
+            _ if self.board.converter.clken == 1 => write(9, self.random.byte() & 0xE0),
             _ => write(0, 0),
         }
     }
@@ -162,18 +162,18 @@ impl User<'_> {
     fn count_byte(&mut self) -> Event {
         let which = self.random.below(3) as usize;
         let counter = self.board.counter(which);
-        let high = counter.bytes.halfwritten || counter.control >> 4 == 2;
+        let high = counter.bytes.halfwritten == 1 || counter.control >> 4 == 2;
         let value = match self.random.below(8) {
             0 => self.random.byte(),
             1 => 0,
             _ if high => self.random.below(2) as u8,
             _ => self.random.below(6) as u8,
         };
-        write(12 + which as u8, value)
+        write(12 + which as u32, value)
     }
 
     fn any_din(&mut self) -> Event {
-        Event::Din { lines: self.board.pins.din ^ (1 << self.random.below(4)) }
+        Event::Din { lines: u32::from(self.board.pins.din) ^ 1 << self.random.below(4) }
     }
 
     fn counting(&mut self) -> Event {
@@ -184,11 +184,11 @@ impl User<'_> {
             0 => self.control_word(),
             1..=3 => self.count_byte(),
             4 => write(15, self.random.below(3) as u8 * 0x40 | self.random.byte() & 15),
-            5 | 6 => read(12 + self.random.below(3) as u8),
+            5 | 6 => read(12 + self.random.below(3)),
             7 => write(10, self.random.byte() & 0x3F),
             8 => write(10, self.random.pick(&[0x00, 0x05, 0x07, 0x04, 0x01, 0x02])),
             9..=11 => self.any_din(),
-            12 => Event::Din { lines: self.random.byte() & 15 },
+            12 => Event::Din { lines: self.random.below(16) },
             13 => write(9, self.random.byte() | self.random.pick(&[0x20, 0x23])),
             14 => self.conversion_end(),
             15 => write(8, 8),
@@ -201,9 +201,9 @@ impl User<'_> {
         if let Some(event) = self.page_first(0) {
             return event;
         }
-        let which = 1 + self.random.below(2) as u8;
-        let counter = *self.board.counter(usize::from(which));
-        let counts = counter.count.loaded || counter.count.waiting;
+        let which = 1 + self.random.below(2);
+        let counter = *self.board.counter(which as usize);
+        let counts = counter.count.loaded == 1 || counter.count.waiting == 1;
         let terminal = counter.mode() == Some(Mode::InterruptOnTerminalCount);
         match self.random.below(32) {
             0 => write(9, self.random.byte() & 0xE0 | 3),
@@ -212,10 +212,12 @@ impl User<'_> {
             3 => self.count_byte(),
             4 if self.random.once_in(4) => self.control_word(),
             5 if terminal => write(12 + which, 2 + self.random.below(3) as u8),
-            6 if counter.control != 0x14 => write(15, which << 6 | 0x14),
-            _ if counter.mode().is_none() => write(15, which << 6 | 0x14),
+            6 if counter.control != 0x14 => write(15, (which as u8) << 6 | 0x14),
+            _ if counter.mode().is_none() => write(15, (which as u8) << 6 | 0x14),
             _ if !counts => write(12 + which, 2 + self.random.below(3) as u8),
-            _ if self.board.converter.converting && self.random.once_in(3) => self.conversion_end(),
+            _ if self.board.converter.converting == 1 && self.random.once_in(3) => {
+                self.conversion_end()
+            }
             _ => Event::Tick,
         }
     }
@@ -235,7 +237,7 @@ impl User<'_> {
 
     /// A trigger where none runs, else the end of the conversion.
     pub fn convert(&mut self) -> Event {
-        if self.board.converter.converting {
+        if self.board.converter.converting == 1 {
             self.conversion_end()
         } else {
             self.start()

@@ -1,4 +1,5 @@
-//! What a working board is: every number in its range, free places of the sample memory 0.
+//! What a working board is: every number in its range, every flag 0 or 1, free places of the sample
+//! memory 0.
 
 use crate::counter::Mode;
 use crate::record::*;
@@ -15,14 +16,21 @@ pub fn is_working(board: &Board, memory: &[u16]) -> bool {
     memory.len() == MEMORY_LENGTH
         && fifo_works(&board.fifo, memory)
         && converter_works(&board.converter)
+        && requests_work(&board.requests)
         && registers_work(&board.registers)
         && outputs_work(&board.outputs)
         && clocks_work(&board.clocks)
         && control_byte_is_taken(board.ports.control)
         && board.calibration.address < 128
         && board.calibration.transfer <= 4
+        && are_flags(&[board.calibration.key, board.calibration.cmuxen])
         && board.pins.din <= 15
         && board.wiring.inputs <= 3
+        && are_flags(&[board.pins.latch, board.wiring.zeroscale])
+}
+
+fn are_flags(numbers: &[u8]) -> bool {
+    numbers.iter().all(|number| matches!(number, 0 | 1))
 }
 
 /// Whether the 82C55 takes a control byte: bit 7 set, mode bits 6, 5 and 2 clear.
@@ -33,12 +41,22 @@ pub fn control_byte_is_taken(control: u8) -> bool {
 fn fifo_works(fifo: &Fifo, memory: &[u16]) -> bool {
     let held = usize::from(fifo.held);
     held <= MEMORY_LENGTH
-        && (!fifo.ovf || held == MEMORY_LENGTH)
+        && (fifo.ovf == 0 || fifo.ovf == 1 && held == MEMORY_LENGTH)
         && memory[held..].iter().all(|&place| place == 0)
 }
 
 fn converter_works(converter: &Converter) -> bool {
-    converter.low < 32 && converter.high < 32 && converter.selected < 32 && converter.channel < 32
+    converter.low < 32
+        && converter.high < 32
+        && converter.selected < 32
+        && converter.channel < 32
+        && are_flags(&[converter.converting, converter.scanen, converter.clken])
+}
+
+fn requests_work(requests: &Requests) -> bool {
+    let flags = &requests.flags;
+    are_flags(&[requests.fifoen, requests.clksel, requests.adinte, requests.dinte, requests.tinte])
+        && are_flags(&[flags.adint, flags.dint, flags.tint])
 }
 
 fn registers_work(registers: &Registers) -> bool {
@@ -49,6 +67,7 @@ fn outputs_work(outputs: &Outputs) -> bool {
     let codes = &outputs.codes;
     let load = &outputs.load;
     [codes.out0, codes.out1, codes.out2, codes.out3, load.code].iter().all(|&code| code < 4096)
+        && are_flags(&[load.loaded])
         && load.channel < 4
         && outputs.busy <= DACBUSY_TICKS
 }
@@ -62,8 +81,16 @@ fn clocks_work(clocks: &Clocks) -> bool {
 }
 
 fn counter_works(counter: &Counter) -> bool {
+    let (count, bytes) = (&counter.count, &counter.bytes);
+    are_flags(&[counter.trigger, count.out, count.waiting])
+        && matches!(count.loaded, 0 | 1)
+        && are_flags(&[bytes.latched, bytes.halfread, bytes.halfwritten])
+        && control_works(counter)
+}
+
+fn control_works(counter: &Counter) -> bool {
     if counter.control == 0 {
-        return counter.count.out;
+        return counter.count.out == 1;
     }
     let format_given = counter.control & 0b11_0000 != 0;
     let binary = counter.control & 1 == 0;

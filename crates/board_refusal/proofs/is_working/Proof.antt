@@ -11,5 +11,6 @@ is-working-spec =
     tie.spec
     (λ c κs. search needs)
     (λ c κs. search needs)
-    (λ c. simp (c .is-working2 .ensures, c .before .is-working .ensures))
+    (λ c. simp (c .is-working2 .ensures, rw (c .before .before .is-working .ensures) at (c .before .if1 .taken)))
+    (λ c. simp (rw (c .before .is-working .ensures) at (c .if1 .left)))
     in tie.close met

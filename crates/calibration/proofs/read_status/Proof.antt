@@ -17,5 +17,5 @@ read-status-spec =
     (λ c. search needs)
     (λ c κs. search needs)
     (λ c. search needs)
-    (λ c. simp (c .weight4 .ensures .0, c .before .weight3 .ensures .0, c .before .before .weight2 .ensures .0, c .before .before .before .weight .ensures .0, c .before .before .before .before .uses-eeprom .ensures, c .before .before .before .before .before .uses-trimdac .ensures, c .before .before .before .before .before .before .transfer-of .ensures))
+    (λ c. simp (c .weight4 .ensures .0, c .before .weight3 .ensures .0, c .before .before .before .weight2 .ensures .0, c .before .before .before .before .weight .ensures .0, c .before .before .before .before .before .uses-eeprom .ensures, c .before .before .before .before .before .before .uses-trimdac .ensures, c .before .before .before .before .before .before .before .transfer-of .ensures))
     in tie.close met

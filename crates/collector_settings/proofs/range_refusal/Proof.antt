@@ -7,6 +7,8 @@ pub range-refusal-spec : {M : Type 1} → statement M
 range-refusal-spec =
     let met =
     tie.spec
+    (λ c. search needs)
+    (λ c. search needs)
     (λ c κs. search needs)
     (λ c κs. search needs)
     (λ c κs. search needs)

@@ -16,5 +16,5 @@ read-spec =
     (λ c κs. search needs)
     (λ c κs. search needs)
     (λ c. simp (rw (c .before .before .setup-of .ensures) at (c .enum-told .given .1)))
-    (λ c. simp (c .byte-shown .ensures, c .before .shown-count .ensures, c .before .before .after-read .ensures, rw (c .before .before .before .before .before .before .before .setup-of .ensures) at (c .before .before .before .before .before .f .given .1)))
+    (λ c. simp (c .byte-shown .ensures, c .before .shown-count .ensures, c .before .before .before .after-read .ensures, rw (c .before .before .before .before .before .before .before .before .setup-of .ensures) at (c .before .before .before .before .before .before .f .given .1)))
     in tie.close met

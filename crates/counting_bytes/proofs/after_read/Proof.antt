@@ -16,6 +16,6 @@ after-read-spec =
     (λ c κs. search needs)
     (λ c. simp (c .read-done .ensures, c .before .enum-told .given .1))
     (λ c. simp (c .read-done2 .ensures, c .before .enum-told2 .given .1))
-    (λ c. simp (c .read-done3 .ensures, c .before .if1 .taken, c .before .before .enum-told3 .given .1))
-    (λ c. simp (c .read-half .ensures, c .before .if1 .left, c .before .before .enum-told3 .given .1))
+    (λ c. simp (c .read-done3 .ensures, c .before .if1 .taken, c .before .before .before .enum-told3 .given .1))
+    (λ c. simp (c .read-half .ensures, c .before .if1 .left, c .before .before .before .enum-told3 .given .1))
     in tie.close met

@@ -16,6 +16,6 @@ piece-of-spec =
     (λ c. search needs)
     (λ c. simp (c .enum-told .given .1))
     (λ c. simp (c .enum-told2 .given .1))
-    (λ c. simp (c .before .if1 .taken, c .before .before .enum-told3 .given .1))
-    (λ c. simp (c .if1 .left, c .before .enum-told3 .given .1))
+    (λ c. simp (c .before .if1 .taken, c .before .before .before .enum-told3 .given .1))
+    (λ c. simp (c .if1 .left, c .before .before .enum-told3 .given .1))
     in tie.close met

@@ -11,6 +11,7 @@ count-rate-spec =
     (λ c κs. search needs)
     (λ c κs. search needs)
     (λ c κs. search needs)
+    (λ c. search needs)
     (λ c. simp (c .load-count .ensures, c .before .load-out .ensures, eq-eqb _ _ (c .before .before .if1 .taken)))
     (λ c. simp (c .one-less .ensures, ne-eqb _ _ (c .before .if1 .left)))
     in tie.close met

@@ -8,5 +8,6 @@ count-terminal-spec =
     let met =
     tie.spec
     (λ c κs. search needs)
+    (λ c. search needs)
     (λ c. simp (c .before .one-less .ensures))
     in tie.close met

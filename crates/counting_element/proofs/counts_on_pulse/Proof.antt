@@ -8,5 +8,5 @@ counts-on-pulse-spec =
     let met =
     tie.spec
     (λ c κs. search needs)
-    (λ c. simp (c .before .byte-stops .ensures))
+    (λ c. simp (c .byte-stops .ensures))
     in tie.close met

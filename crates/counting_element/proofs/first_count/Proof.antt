@@ -8,5 +8,6 @@ first-count-spec =
     let met =
     tie.spec
     (λ c κs. search needs)
+    (λ c. search needs)
     (λ c. simp (c .first-out .ensures))
     in tie.close met

@@ -8,5 +8,5 @@ loads-on-pulse-spec =
     let met =
     tie.spec
     (λ c κs. search needs)
-    (λ c. simp (c .before .before .trigger-loads .ensures))
+    (λ c. simp (c .trigger-loads .ensures))
     in tie.close met

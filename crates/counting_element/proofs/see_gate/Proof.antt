@@ -8,5 +8,6 @@ see-gate-spec =
     let met =
     tie.spec
     (λ c κs. search needs)
-    (λ c. simp (c .before .gate-raises .ensures))
+    (λ c. search needs)
+    (λ c. simp (c .gate-raises .ensures))
     in tie.close met

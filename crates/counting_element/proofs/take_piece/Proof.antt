@@ -11,6 +11,8 @@ take-piece-spec =
     (λ c κs. search needs)
     (λ c. search needs)
     (λ c. search needs)
-    (λ c. simp (c .enum-told .given .1, c .before .before .before .before .before .byte-stops .ensures))
-    (λ c. simp (c .before .q .given .1, c .before .before .before .before .loads-at-once .ensures, c .before .before .before .before .before .before .byte-stops .ensures))
+    (λ c. search needs)
+    (λ c. search needs)
+    (λ c. simp (c .enum-told .given .1, c .before .before .before .before .byte-stops .ensures))
+    (λ c. simp (c .before .q .given .1, c .before .before .before .before .loads-at-once .ensures, c .before .before .before .before .before .byte-stops .ensures))
     in tie.close met

@@ -8,6 +8,7 @@ use lib.ListN.{length, take, drop, replicate, length-append, length-drop, take-a
 use lib.Seq.{length-take-le}
 use lib.Dec.{ltb, eqb}
 use borrow.Author.Tests.{leb-true, eqb-true, le-leb, eq-eqb, le-ltb, ltb-true, ltb-false}
+use Rattle.base.specs.Flags.{on}
 use Rattle.base.specs.Choice.{if_then_else_}
 use Rattle.base.specs.Tests.{each, every}
 use Rattle.fifo.specs.declared.Fifo.{Fifo}
@@ -25,12 +26,13 @@ length-queue f m w = length-take-le (f .held) m (omega arith)
 pub layout-queue : (f : Fifo) (m : List ℕ) → WorkingFifo f m → layout f (queue f m) ≡ m
 layout-queue f m w = sym (w .laid)
 
-layout-works : (f : Fifo) (q : List ℕ) → length q ≡ f .held → f .held ≤ 512 → (f .ovf ≡ true → f .held ≡ 512) → WorkingFifo f (layout f q)
-layout-works f q e h o =
+layout-works : (f : Fifo) (q : List ℕ) → length q ≡ f .held → f .held ≤ 512 → f .ovf ≤ 1 → (on (f .ovf) ≡ true → f .held ≡ 512) → WorkingFifo f (layout f q)
+layout-works f q e h l o =
     record {
       long = length-layout f q (omega arith);
       held = h;
       ovf = o;
+      flag = l;
       laid = ap (layout f) (sym (queue-layout f q e));
     }
 
@@ -50,13 +52,14 @@ working-of f m h =
     let t = each (fifoTests f m) h in
     let l : length m ≡ 512 = eqb-true (length m) 512 (t .0) in
     let a : f .held ≤ 512 = leb-true (f .held) 512 (t .1 .0) in
-    let z : drop (f .held) m ≡ replicate (length (drop (f .held) m)) 0 = zeros-replicate (drop (f .held) m) (t .1 .1 .1 .0) in
+    let z : drop (f .held) m ≡ replicate (length (drop (f .held) m)) 0 = zeros-replicate (drop (f .held) m) (t .1 .1 .1 .1 .0) in
     let n : length (drop (f .held) m) ≡ 512 - length (take (f .held) m) =
     simp (length-drop, length-take-le (f .held) m (omega arith)) (omega arith) in
     record {
       long = l;
       held = a;
-      ovf = set-only-at (f .ovf) (f .held) (t .1 .1 .0);
+      flag = leb-true (f .ovf) 1 (t .1 .1 .0);
+      ovf = set-only-at (on (f .ovf)) (f .held) (t .1 .1 .1 .0);
       laid =
           sym (take-append-drop (f .held) m)
           ∙ ap (λ (r : List ℕ). take (f .held) m ++ r) (z ∙ ap (λ (k : ℕ). replicate k 0) n);
@@ -71,8 +74,11 @@ working-to f m w =
       (
         le-leb _ _ (w .held),
         (
-          at-only-set (f .ovf) (f .held) (w .ovf),
-          (rw (free-zero f m w) (replicate-zeros (512 - f .held)), tt),
+          le-leb _ _ (w .flag),
+          (
+            at-only-set (on (f .ovf)) (f .held) (w .ovf),
+            (rw (free-zero f m w) (replicate-zeros (512 - f .held)), tt),
+          ),
         ),
       ),
     )
@@ -83,19 +89,21 @@ unfolding pushed pushedTo
 length-pushed q s f e = rw e (by (ltb (f .held) 512))
   where
     by : (b : Bool)
-        → length (if b then q ++ s ∷ [] else q) ≡ (if_then_else_ {A = Fifo} b (record { held = f .held + 1; ovf = f .ovf }) (record { held = f .held; ovf = true })) .held
+        → length (if b then q ++ s ∷ [] else q)
+        ≡ (if_then_else_ {A = Fifo} b (record { held = f .held + 1; ovf = f .ovf }) (record { held = f .held; ovf = 1 })) .held
     by true = length-append q (s ∷ []) ∙ ap (λ (k : ℕ). k + 1) e
     by false = e
 
-pushed-facts : (f : Fifo) → f .held ≤ 512 → (f .ovf ≡ true → f .held ≡ 512) → (pushedTo f .held ≤ 512) × (pushedTo f .ovf ≡ true → pushedTo f .held ≡ 512)
+pushed-facts : (f : Fifo) → f .held ≤ 512 → f .ovf ≤ 1 → (on (f .ovf) ≡ true → f .held ≡ 512)
+    → (pushedTo f .held ≤ 512) × (pushedTo f .ovf ≤ 1) × (on (pushedTo f .ovf) ≡ true → pushedTo f .held ≡ 512)
 unfolding pushedTo
-pushed-facts f h o = by (ltb (f .held) 512) refl
+pushed-facts f h l o = by (ltb (f .held) 512) refl
   where
     by : (b : Bool) → ltb (f .held) 512 ≡ b
-        → let g : Fifo = if b then record { held = f .held + 1; ovf = f .ovf } else record { held = f .held; ovf = true } in
-        (g .held ≤ 512) × (g .ovf ≡ true → g .held ≡ 512)
-    by true t = (omega (arith, ltb-true (f .held) 512 t), λ s. absurd (omega (arith, ltb-true (f .held) 512 t, o s)))
-    by false t = (h, λ s. omega (arith, ltb-false (f .held) 512 t))
+        → let g : Fifo = if b then record { held = f .held + 1; ovf = f .ovf } else record { held = f .held; ovf = 1 } in
+        (g .held ≤ 512) × (g .ovf ≤ 1) × (on (g .ovf) ≡ true → g .held ≡ 512)
+    by true t = (omega (arith, ltb-true (f .held) 512 t), l, λ s. absurd (omega (arith, ltb-true (f .held) 512 t, o s)))
+    by false t = (h, omega arith, λ s. omega (arith, ltb-false (f .held) 512 t))
 
 pub held-push : (f : Fifo) (m : List ℕ) (s : ℕ) → WorkingFifo f m → length (pushed (queue f m) s) ≡ pushedTo f .held
 held-push f m s w = length-pushed (queue f m) s f (length-queue f m w)
@@ -105,11 +113,12 @@ queue-push f m s w = queue-layout (pushedTo f) (pushed (queue f m) s) (held-push
 
 pub push-works : (f : Fifo) (m : List ℕ) (s : ℕ) → WorkingFifo f m → WorkingFifo (pushedTo f) (layout (pushedTo f) (pushed (queue f m) s))
 push-works f m s w =
-    let k = pushed-facts f (w .held) (w .ovf) in
-    layout-works (pushedTo f) _ (held-push f m s w) (k .0) (k .1)
+    let k = pushed-facts f (w .held) (w .flag) (w .ovf) in
+    layout-works (pushedTo f) _ (held-push f m s w) (k .0) (k .1) (k .2)
 
 -- with 512 held the new sample is lost and OVF is set
-pub push-full : (f : Fifo) (m : List ℕ) (s : ℕ) → WorkingFifo f m → f .held ≡ 512 → (pushed (queue f m) s ≡ queue f m) × (pushedTo f .held ≡ 512) × (pushedTo f .ovf ≡ true)
+pub push-full : (f : Fifo) (m : List ℕ) (s : ℕ) → WorkingFifo f m → f .held ≡ 512
+    → (pushed (queue f m) s ≡ queue f m) × (pushedTo f .held ≡ 512) × (on (pushedTo f .ovf) ≡ true)
 unfolding pushed pushedTo
 push-full f m s w h = (
   rw (le-ltb (length (queue f m)) 512 (omega (arith, length-queue f m w))),
@@ -122,19 +131,20 @@ length-popped : (q : List ℕ) (f : Fifo) → length q ≡ f .held → length (p
 unfolding poppedFrom
 length-popped q f e = length-drop 1 q ∙ ap (λ (k : ℕ). k - 1) e ∙ by (eqb (f .held) 0) refl
   where
-    by : (b : Bool) → eqb (f .held) 0 ≡ b → f .held - 1 ≡ (if_then_else_ {A = Fifo} b f (record { held = f .held - 1; ovf = false })) .held
+    by : (b : Bool) → eqb (f .held) 0 ≡ b → f .held - 1 ≡ (if_then_else_ {A = Fifo} b f (record { held = f .held - 1; ovf = 0 })) .held
     by true t = omega (arith, eqb-true (f .held) 0 t)
     by false t = refl
 
-popped-facts : (f : Fifo) → f .held ≤ 512 → (f .ovf ≡ true → f .held ≡ 512) → (poppedFrom f .held ≤ 512) × (poppedFrom f .ovf ≡ true → poppedFrom f .held ≡ 512)
+popped-facts : (f : Fifo) → f .held ≤ 512 → f .ovf ≤ 1 → (on (f .ovf) ≡ true → f .held ≡ 512)
+    → (poppedFrom f .held ≤ 512) × (poppedFrom f .ovf ≤ 1) × (on (poppedFrom f .ovf) ≡ true → poppedFrom f .held ≡ 512)
 unfolding poppedFrom
-popped-facts f h o = by (eqb (f .held) 0)
+popped-facts f h l o = by (eqb (f .held) 0)
   where
     by : (b : Bool)
-        → let g : Fifo = if b then f else record { held = f .held - 1; ovf = false } in
-        (g .held ≤ 512) × (g .ovf ≡ true → g .held ≡ 512)
-    by true = (h, o)
-    by false = (omega arith, λ s. never s)
+        → let g : Fifo = if b then f else record { held = f .held - 1; ovf = 0 } in
+        (g .held ≤ 512) × (g .ovf ≤ 1) × (on (g .ovf) ≡ true → g .held ≡ 512)
+    by true = (h, l, o)
+    by false = (omega arith, omega arith, λ s. never s)
 
 pub held-pop : (f : Fifo) (m : List ℕ) → WorkingFifo f m → length (popped (queue f m)) ≡ poppedFrom f .held
 held-pop f m w = length-popped (queue f m) f (length-queue f m w)
@@ -144,12 +154,12 @@ queue-pop f m w = queue-layout (poppedFrom f) (popped (queue f m)) (held-pop f m
 
 pub pop-works : (f : Fifo) (m : List ℕ) → WorkingFifo f m → WorkingFifo (poppedFrom f) (layout (poppedFrom f) (popped (queue f m)))
 pop-works f m w =
-    let k = popped-facts f (w .held) (w .ovf) in
-    layout-works (poppedFrom f) _ (held-pop f m w) (k .0) (k .1)
+    let k = popped-facts f (w .held) (w .flag) (w .ovf) in
+    layout-works (poppedFrom f) _ (held-pop f m w) (k .0) (k .1) (k .2)
 
 -- ---- after a reset
 pub queue-clear : queue emptyFifo (layout emptyFifo []) ≡ []
 queue-clear = queue-layout emptyFifo [] refl
 
 pub clear-works : WorkingFifo emptyFifo (layout emptyFifo [])
-clear-works = layout-works emptyFifo [] refl (omega arith) (λ s. never s)
+clear-works = layout-works emptyFifo [] refl (omega arith) (omega arith) (λ s. never s)

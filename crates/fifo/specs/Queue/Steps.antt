@@ -8,6 +8,7 @@ use lib.ListN.{length, getD, take, drop, set, replicate, length-append, length-d
 use lib.Seq.{length-take-le, set-at}
 use lib.Dec.{leb, eqb}
 use borrow.Author.Tests.{lt-ltb, le-ltb, eq-eqb, ne-eqb}
+use Rattle.base.specs.Flags.{on}
 use Rattle.base.specs.Choice.{if_then_else_}
 use Rattle.fifo.specs.declared.Fifo.{Fifo}
 use Rattle.fifo.specs.Samples.{oldestOf, pushed, popped}
@@ -41,7 +42,7 @@ push-kept f m s w h =
     }
 
 pub push-lost : (f : Fifo) (m : List ℕ) (s : ℕ) → WorkingFifo f m → 512 ≤ f .held
-    → Leaves (pushedTo f) (pushed (queue f m) s) (record { held = f .held; ovf = true }) m
+    → Leaves (pushedTo f) (pushed (queue f m) s) (record { held = f .held; ovf = 1 }) m
 unfolding layout pushed pushedTo
 push-lost f m s w h =
     let e : length (queue f m) ≡ f .held = length-queue f m w in
@@ -55,7 +56,7 @@ unfolding layout queue poppedFrom
 pop-none f m w h = record { fifo = rw (eq-eqb (f .held) 0 h); laid = w .laid ∙ rw h }
 
 pub pop-some : (f : Fifo) (m : List ℕ) → WorkingFifo f m → (f .held ≡ 0 → ⊥)
-    → Leaves (poppedFrom f) (popped (queue f m)) (record { held = f .held - 1; ovf = false }) (movedDown (f .held) m)
+    → Leaves (poppedFrom f) (popped (queue f m)) (record { held = f .held - 1; ovf = 0 }) (movedDown (f .held) m)
 unfolding layout queue poppedFrom
 pop-some f m w h =
     let n : length (take (f .held) m) ≡ f .held = length-take-le (f .held) m (omega arith) in
@@ -87,6 +88,6 @@ oldest-some f m w h = first (f .held) m (omega arith) (omega arith)
     first (suc n) (x ∷ xs) p q = refl
 
 pub tested : (f : Fifo) (m : List ℕ)
-    → ((eqb (length m) 512 && leb (f .held) 512) && (not (f .ovf) || eqb (f .held) 512)) && zeros (drop (f .held) m) ≡ isWorking f m
+    → (((eqb (length m) 512 && leb (f .held) 512) && leb (f .ovf) 1) && (not (on (f .ovf)) || eqb (f .held) 512)) && zeros (drop (f .held) m) ≡ isWorking f m
 unfolding isWorking fifoTests
 tested f m = refl

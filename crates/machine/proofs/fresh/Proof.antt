@@ -16,5 +16,6 @@ fresh-spec =
     (λ c κs. search needs)
     (λ c κs. search needs)
     (λ c κs. search needs)
+    (λ c. search needs)
     (λ c. simp (c .fresh2 .ensures, c .before .fresh .ensures, c .before .before .new .ensures, c .before .before .before .reset-a .ensures, c .before .before .before .before .fresh-registers .ensures, c .before .before .before .before .before .empty .ensures, c .before .before .before .before .before .before .fresh-requests .ensures, c .before .before .before .before .before .before .before .fresh-converter .ensures, c .before .before .before .before .before .before .before .before .number-of .ensures))
     in tie.close met

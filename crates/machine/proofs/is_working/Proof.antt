@@ -14,5 +14,6 @@ is-working-spec =
     (λ c κs. search needs)
     (λ c κs. search needs)
     (λ c κs. search needs)
-    (λ c. simp (c .before .before .works3 .ensures, c .before .before .before .works2 .ensures, c .before .before .before .before .before .before .is-working2 .ensures, c .before .before .before .before .before .before .before .works .ensures, c .before .before .before .before .before .before .before .before .before .before .before .is-working .ensures))
+    (λ c κs. search needs)
+    (λ c. simp (c .before .before .before .before .works3 .ensures, c .before .before .before .before .before .works2 .ensures, c .before .before .before .before .before .before .before .before .is-working3 .ensures, c .before .before .before .before .before .before .before .before .before .works .ensures, c .before .before .before .before .before .before .before .before .before .before .before .before .before .is-working2 .ensures, c .before .before .before .before .before .before .before .before .before .before .before .before .before .before .is-working .ensures))
     in tie.close met

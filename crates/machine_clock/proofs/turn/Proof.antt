@@ -14,5 +14,5 @@ turn-spec =
     (λ c κs. search needs)
     (λ c κs. search needs)
     (λ c κs. search needs)
-    (λ c. simp (c .put-timer .ensures, c .before .ask-timer .ensures, c .before .before .clock-trigger .ensures, c .before .before .before .has-fallen2 .ensures, c .before .before .before .before .has-fallen .ensures))
+    (λ c. simp (c .put-timer .ensures, c .before .ask-timer .ensures, c .before .before .clock-trigger .ensures, c .before .before .before .before .has-fallen2 .ensures, c .before .before .before .before .before .before .before .has-fallen .ensures))
     in tie.close met

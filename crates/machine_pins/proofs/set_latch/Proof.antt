@@ -10,5 +10,6 @@ set-latch-spec =
     let met =
     tie.spec
     (λ c κs. search needs)
+    (λ c. search needs)
     (λ c. simp (c .before .ask-latch .ensures))
     in tie.close met

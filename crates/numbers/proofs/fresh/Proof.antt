@@ -8,5 +8,6 @@ fresh-spec =
     let met =
     tie.spec
     (λ c κs. search needs)
-    (λ c. simp (c .before .fresh .ensures))
+    (λ c κs. search needs)
+    (λ c. simp (c .before .fresh .ensures, c .before .before .byte-of .ensures))
     in tie.close met

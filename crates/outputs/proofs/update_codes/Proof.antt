@@ -9,6 +9,6 @@ update-codes-spec =
     tie.spec
     (λ c κs. search needs)
     (λ c κs. search needs)
-    (λ c. simp (c .put-code .ensures, rw (c .before .before .before .is-busy .ensures) at (c .before .if1 .taken)))
-    (λ c. simp (rw (c .before .before .is-busy .ensures) at (c .if1 .left)))
+    (λ c. simp (c .put-code .ensures, rw (c .before .before .is-busy .ensures) at (c .before .if1 .taken)))
+    (λ c. simp (rw (c .before .is-busy .ensures) at (c .if1 .left)))
     in tie.close met

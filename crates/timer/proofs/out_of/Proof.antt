@@ -8,5 +8,5 @@ out-of-spec =
     let met =
     tie.spec
     (λ c κs. search needs)
-    (λ c. simp (c .counter-of .ensures))
+    (λ c. simp (c .before .counter-of .ensures))
     in tie.close met

@@ -1,5 +1,6 @@
 -- `board_host::spoil::spoil_board` meets its contract. Assumes nothing.
 use borrow.Author.Needs.{needs}
+use borrow.Author.Tests.{le-ltb, lt-ltb}
 use Rattle.board_host.proofs.spoil.spoil_board.Statement.{statement}
 use Rattle.board_host.proofs.spoil.spoil_board.Tie as tie
 use Rattle.board_host.specs.Spoils.{spoiled}
@@ -11,12 +12,6 @@ spoil-board-spec =
     tie.spec
     (λ c κs. search needs)
     (λ c κs. search needs)
-    (λ c κs. search needs)
-    (λ c κs. search needs)
-    (λ c κs. search needs)
-    (λ c κs. search needs)
-    (λ c κs. search needs)
-    (λ c κs. search needs)
-    (λ c κs. search needs)
-    (λ c. simp (c .spoil-wiring .ensures, c .before .spoil-pins .ensures, c .before .before .spoil-registers .ensures, c .before .before .before .spoil-calibration .ensures, c .before .before .before .before .spoil-ports .ensures, c .before .before .before .before .before .spoil-outputs .ensures, c .before .before .before .before .before .before .spoil-clocks .ensures, c .before .before .before .before .before .before .before .spoil-channels .ensures, c .before .before .before .before .before .before .before .before .spoil-fifo .ensures))
+    (λ c. simp (c .spoil-ranges .ensures, lt-ltb _ _ (c .before .if1 .taken)))
+    (λ c. simp (c .damage-board .ensures, le-ltb _ _ (c .before .if1 .left)))
     in tie.close met

@@ -10,6 +10,7 @@ answer-start-spec =
     (λ c. search needs)
     (λ c. search needs)
     (λ c κs. search needs)
+    (λ c. search needs)
     (λ c. simp (c .before .s .given .1))
     (λ c. simp (c .no-collector .ensures, c .before .before .s2 .given .1))
     in tie.close met
