@@ -4,7 +4,9 @@
     readme.py SESSION LIBRARY     the session program, the static library of cowriestep
 """
 import os
+import platform
 import re
+import shutil
 import subprocess
 import sys
 import tempfile
@@ -28,6 +30,9 @@ if len(rows) < 10:
 typed = ''.join(line + '\n' for line, _ in rows)
 told('a session', ''.join(line + '\n' for _, line in rows), subprocess.run([session], input=typed, capture_output=True, text=True, check=True).stdout)
 
+if platform.machine() != 'x86_64' and not shutil.which('x86_64-linux-gnu-gcc'):
+    print(f'tests/readme.py: {len(rows)} lines of a session do as README says; no C compiler for x86-64 here: the C host was NOT run')
+    sys.exit()
 text = section('A C host')
 code = '\n'.join(line[4:] for line in text.split('\nWith these lines')[0].splitlines())
 prints = re.search(r'this prints `([^`]*)`', text).group(1)

@@ -3,8 +3,9 @@
 
     python3 check.py PROGRAM
 
-Each run has 64 MB of address space, whatever the input's size.
+Each run has 64 MB of address space, whatever the input's size; an emulated one (tests/emulated) has what its emulator takes.
 """
+import platform
 import random
 import resource
 import select
@@ -18,7 +19,8 @@ LIMIT = 64 << 20
 
 
 def limited():
-    resource.setrlimit(resource.RLIMIT_AS, (LIMIT, LIMIT))
+    if platform.machine() == "x86_64":
+        resource.setrlimit(resource.RLIMIT_AS, (LIMIT, LIMIT))
 
 
 def start(**more):
