@@ -36,31 +36,58 @@ enum { NO_TRANSFER, EEPROM_READ, EEPROM_WRITE, RUNCAL, TRIMDAC };
 #define CONTROLS_OF_A_FORMAT (UINT64_C(1) << 0 | UINT64_C(1) << 4 | UINT64_C(1) << 12)
 #define CONTROLS (UINT64_C(1) | CONTROLS_OF_A_FORMAT << RW_LEAST | CONTROLS_OF_A_FORMAT << RW_MOST | CONTROLS_OF_A_FORMAT << RW_BOTH)
 
+/* the bits that are 0 in every working board: those that no number in range has, and all but bit 0 of each flag */
+#define NO_FLAG 0xFE
+#define CLEAR_COUNTER {.control = 0xC1, .trigger = NO_FLAG, .count = {0, 0, NO_FLAG, NO_FLAG, 0xFFFE}, .bytes = {0, NO_FLAG, NO_FLAG, 0, NO_FLAG}}
+static const struct dmm32_board clear = {
+    .converter = {0xE0, 0xE0, 0xE0, 0xE0, NO_FLAG, NO_FLAG, NO_FLAG},
+    .requests = {0, NO_FLAG, NO_FLAG, NO_FLAG, NO_FLAG, NO_FLAG, {NO_FLAG, NO_FLAG, NO_FLAG}},
+    .fifo = {0xFC00, 0xFFFE},
+    .registers = {.page = 0xFC, .dout = 0xF8, .range = 0xF0},
+    .outputs = {.codes = {0xF000, 0xF000, 0xF000, 0xF000}, .load = {NO_FLAG, 0xFC, 0xF000}, .busy = 0x80},
+    .clocks = {.timer = {CLEAR_COUNTER, CLEAR_COUNTER, CLEAR_COUNTER}},
+    .calibration = {.address = 0x80, .transfer = 0xF8, .key = NO_FLAG, .cmuxen = NO_FLAG},
+    .pins = {0xF0, NO_FLAG},
+    .wiring = {0xFC, NO_FLAG},
+};
+
+/* eight bytes of a record */
+static uint64_t eight(const void *record, size_t offset)
+{
+    uint64_t bytes;
+    memcpy(&bytes, (const char *)record + offset, sizeof bytes);
+    return bytes;
+}
+
+/* The bits of a record that are to be 0 and are not. */
+static uint64_t not_clear(const struct dmm32_board *b)
+{
+#define AT(field) (eight(b, offsetof(struct dmm32_board, field)) & eight(&clear, offsetof(struct dmm32_board, field)))
+    const struct dmm32_timer *t = &b->clocks.timer;
+    const struct dmm32_counter *c = &clear.clocks.timer.counter0;
+    return AT(converter) | AT(requests.fifoen) | AT(fifo) | AT(outputs.codes) | AT(outputs.load) | AT(calibration.address) | AT(calibration.trim[4])
+        | ((eight(&t->counter0, 0) | eight(&t->counter1, 0) | eight(&t->counter2, 0)) & eight(c, 0))
+        | ((eight(&t->counter0, 8) | eight(&t->counter1, 8) | eight(&t->counter2, 8)) & eight(c, 8));
+#undef AT
+}
+
+/* of a counter that has those bits clear */
 static bool counter_works(const struct dmm32_counter *c)
 {
     if (c->control == 0)
         return c->count.out;
-    if (c->control > 63 || !(CONTROLS >> c->control & 1))
-        return false;
-    return !(c->control & RATE_GENERATOR) || c->count.count_register != 1;
-}
-
-static bool outputs_work(const struct dmm32_outputs *o)
-{
-    return (o->codes.out0 | o->codes.out1 | o->codes.out2 | o->codes.out3 | o->load.code) <= 4095 && o->load.channel <= 3 && o->busy <= 100;
+    return CONTROLS >> c->control & 1 && (!(c->control & RATE_GENERATOR) || c->count.count_register != 1);
 }
 
 static bool record_works(const struct dmm32_board *b)
 {
-    return (b->converter.low | b->converter.high | b->converter.selected | b->converter.channel) <= 31
+    return not_clear(b) == 0
         && b->fifo.held <= PLACES && (!b->fifo.ovf || b->fifo.held == PLACES)
-        && b->registers.page <= 3 && b->registers.dout <= 7 && b->registers.range <= 15
-        && outputs_work(&b->outputs)
+        && b->outputs.busy <= 100
         && counter_works(&b->clocks.timer.counter0) && counter_works(&b->clocks.timer.counter1) && counter_works(&b->clocks.timer.counter2)
         && b->clocks.hundred <= 99 && b->clocks.thousand <= 999
         && (b->ports.control & 0xE4) == 0x80
-        && b->calibration.address <= 127 && b->calibration.transfer <= TRIMDAC
-        && b->pins.din <= 15 && b->wiring.inputs <= 3;
+        && b->calibration.transfer <= TRIMDAC;
 }
 
 static bool free_places_are_zero(const uint16_t *memory, unsigned held)
@@ -92,7 +119,7 @@ static void empty(struct dmm32_board *b, uint16_t *memory)
 {
     memset(memory, 0, PLACES * sizeof *memory);
     b->fifo.held = 0;
-    b->fifo.ovf = false;
+    b->fifo.ovf = 0;
 }
 
 static uint16_t oldest(const struct dmm32_board *b, const uint16_t *memory)
@@ -109,7 +136,7 @@ static void take(struct dmm32_board *b, uint16_t *memory)
     memmove(memory, memory + 1, rest * sizeof *memory);
     memory[rest] = 0;
     b->fifo.held = (uint16_t)rest;
-    b->fifo.ovf = false;
+    b->fifo.ovf = 0;
 }
 
 /* ---- conversions */
@@ -118,7 +145,7 @@ static void start(struct dmm32_converter *c)
 {
     c->channel = c->selected;
     c->selected = c->selected == c->high ? c->low : (c->selected + 1) & 31;
-    c->converting = true;
+    c->converting = 1;
 }
 
 static void trigger(struct dmm32_converter *c)
@@ -133,8 +160,8 @@ static void load(struct dmm32_count *k, bool out)
 {
     k->element = k->count_register;
     k->out = out;
-    k->waiting = false;
-    k->loaded = true;
+    k->waiting = 0;
+    k->loaded = 1;
 }
 
 static void clock_counter(struct dmm32_counter *c, bool gate)
@@ -143,7 +170,7 @@ static void clock_counter(struct dmm32_counter *c, bool gate)
     bool rate = c->control & RATE_GENERATOR, triggered = c->trigger;
     if (c->control == 0)
         return;
-    c->trigger = false;
+    c->trigger = 0;
     if (k->waiting || (k->loaded && rate && triggered)) {
         load(k, rate);
     } else if (k->loaded && gate && rate) {
@@ -153,7 +180,7 @@ static void clock_counter(struct dmm32_counter *c, bool gate)
             k->out = --k->element != 1;
     } else if (k->loaded && gate && !c->bytes.halfwritten) {
         if (--k->element == 0)
-            k->out = true;
+            k->out = 1;
     }
 }
 
@@ -171,7 +198,7 @@ static bool gate12(const struct dmm32_board *b)
 static void out0_moved(struct dmm32_board *b, bool was)
 {
     if (was && !b->clocks.timer.counter0.count.out && b->requests.tinte)
-        b->requests.flags.tint = true;
+        b->requests.flags.tint = 1;
 }
 
 static void out2_moved(struct dmm32_board *b, bool was)
@@ -209,9 +236,9 @@ static void move_gate(struct dmm32_counter *c, bool was, bool is)
     if (was == is || !(c->control & RATE_GENERATOR))
         return;
     if (is)
-        c->trigger = true;
+        c->trigger = 1;
     else
-        c->count.out = true;
+        c->count.out = 1;
 }
 
 /* Base + 10 and DIN3-0 become these; the gates follow. */
@@ -250,9 +277,9 @@ static uint32_t write_count(struct dmm32_board *b, unsigned n, uint8_t value)
         return REFUSED(COWRIESTEP_REFUSED_NOT_MODELLED);
     if ((c->control & RW_BOTH) == RW_BOTH && !c->bytes.halfwritten) {
         c->bytes.first = value;
-        c->bytes.halfwritten = true;
+        c->bytes.halfwritten = 1;
         if (!rate)
-            c->count.out = false;
+            c->count.out = 0;
         out_moved(b, n, was);
         return DONE;
     }
@@ -265,9 +292,9 @@ static uint32_t write_count(struct dmm32_board *b, unsigned n, uint8_t value)
     c->count.count_register = (uint16_t)whole;
     c->count.waiting = !rate || !c->count.loaded;
     c->bytes.first = 0;
-    c->bytes.halfwritten = false;
+    c->bytes.halfwritten = 0;
     if (!rate)
-        c->count.out = false;
+        c->count.out = 0;
     out_moved(b, n, was);
     return DONE;
 }
@@ -282,7 +309,7 @@ static uint32_t write_control_word(struct dmm32_board *b, uint8_t word)
     if ((control & RW_BOTH) == 0) {
         if (c->control != 0 && !c->bytes.latched) {
             c->bytes.latch = c->count.element;
-            c->bytes.latched = true;
+            c->bytes.latched = 1;
         }
         return DONE;
     }
@@ -290,7 +317,7 @@ static uint32_t write_control_word(struct dmm32_board *b, uint8_t word)
         return REFUSED(COWRIESTEP_REFUSED_NOT_MODELLED);
     memset(c, 0, sizeof *c);
     c->control = (uint8_t)control;
-    c->count.out = control & RATE_GENERATOR;
+    c->count.out = (control & RATE_GENERATOR) != 0;
     out_moved(b, n, was);
     return DONE;
 }
@@ -302,12 +329,12 @@ static uint8_t read_count(struct dmm32_counter *c)
     if (c->control == 0)
         return 0;
     if (format == RW_BOTH && !c->bytes.halfread) {
-        c->bytes.halfread = true;
+        c->bytes.halfread = 1;
         return (uint8_t)count;
     }
     c->bytes.latch = 0;
-    c->bytes.latched = false;
-    c->bytes.halfread = false;
+    c->bytes.latched = 0;
+    c->bytes.halfread = 0;
     return (uint8_t)(format == RW_LEAST ? count : count >> 8);
 }
 
@@ -358,7 +385,7 @@ static uint32_t write_command(struct dmm32_calibration *c, uint8_t value)
         c->transfer = value & 0x40 ? EEPROM_READ : EEPROM_WRITE;
     else
         c->transfer = commands == 0x20 ? RUNCAL : commands == 0x08 ? TRIMDAC : NO_TRANSFER;
-    c->cmuxen = value & 0x10;
+    c->cmuxen = value >> 4 & 1;
     return DONE;
 }
 
@@ -414,8 +441,8 @@ static void reset(struct dmm32_board *b, uint16_t *memory, bool analog)
     b->calibration.value = 0;
     b->calibration.address = 0;
     b->calibration.transfer = NO_TRANSFER;
-    b->calibration.key = false;
-    b->calibration.cmuxen = false;
+    b->calibration.key = 0;
+    b->calibration.cmuxen = 0;
     empty(b, memory);
 }
 
@@ -427,17 +454,17 @@ static void write_miscellaneous(struct dmm32_board *b, uint16_t *memory, uint8_t
         memset(&b->requests.flags, 0, sizeof b->requests.flags);
     } else {
         b->registers.page = value & 3;
-        b->calibration.key = false;
+        b->calibration.key = 0;
     }
 }
 
 static void write_operation(struct dmm32_board *b, uint8_t value)
 {
-    b->requests.adinte = value & 0x80;
-    b->requests.dinte = value & 0x40;
-    b->requests.tinte = value & 0x20;
-    b->converter.clken = value & 0x02;
-    b->requests.clksel = value & 0x01;
+    b->requests.adinte = value >> 7;
+    b->requests.dinte = value >> 6 & 1;
+    b->requests.tinte = value >> 5 & 1;
+    b->converter.clken = value >> 1 & 1;
+    b->requests.clksel = value & 1;
 }
 
 static uint32_t write_output(struct dmm32_outputs *o, unsigned offset, uint8_t value)
@@ -447,7 +474,7 @@ static uint32_t write_output(struct dmm32_outputs *o, unsigned offset, uint8_t v
     if (offset == 4) {
         o->lsb = value;
     } else {
-        o->load.loaded = true;
+        o->load.loaded = 1;
         o->load.channel = value >> 6;
         o->load.code = (uint16_t)((value & 15u) << 8 | o->lsb);
         o->busy = 100;
@@ -469,7 +496,7 @@ static uint32_t write_paged(struct dmm32_board *b, unsigned offset, uint8_t valu
     }
 }
 
-uint32_t BASELINE(write_byte)(struct dmm32_board *b, uint16_t *memory, size_t memory_length, uint8_t *eeprom, size_t eeprom_length, uint8_t offset, uint8_t value)
+uint32_t BASELINE(write_byte)(struct dmm32_board *b, uint16_t *memory, size_t memory_length, uint8_t *eeprom, size_t eeprom_length, uint32_t offset, uint8_t value)
 {
     (void)eeprom;
     REFUSE_UNFIT(b, memory, memory_length, eeprom_length);
@@ -495,8 +522,8 @@ uint32_t BASELINE(write_byte)(struct dmm32_board *b, uint16_t *memory, size_t me
         b->requests.threshold = value;
         return DONE;
     case 7:
-        b->requests.fifoen = value & 8;
-        b->converter.scanen = value & 4;
+        b->requests.fifoen = value >> 3 & 1;
+        b->converter.scanen = value >> 2 & 1;
         if (value & 2)
             empty(b, memory);
         return DONE;
@@ -574,7 +601,7 @@ static uint32_t read_paged(struct dmm32_board *b, unsigned offset)
     }
 }
 
-uint32_t BASELINE(read_byte)(struct dmm32_board *b, uint16_t *memory, size_t memory_length, uint8_t *eeprom, size_t eeprom_length, uint8_t offset)
+uint32_t BASELINE(read_byte)(struct dmm32_board *b, uint16_t *memory, size_t memory_length, uint8_t *eeprom, size_t eeprom_length, uint32_t offset)
 {
     uint16_t sample;
     (void)eeprom;
@@ -617,7 +644,7 @@ uint32_t BASELINE(read_byte)(struct dmm32_board *b, uint16_t *memory, size_t mem
     }
 }
 
-uint32_t BASELINE(read_word)(struct dmm32_board *b, uint16_t *memory, size_t memory_length, uint8_t *eeprom, size_t eeprom_length, uint8_t offset)
+uint32_t BASELINE(read_word)(struct dmm32_board *b, uint16_t *memory, size_t memory_length, uint8_t *eeprom, size_t eeprom_length, uint32_t offset)
 {
     (void)eeprom;
     REFUSE_UNFIT(b, memory, memory_length, eeprom_length);
@@ -640,25 +667,25 @@ uint32_t BASELINE(conversion_end)(struct dmm32_board *b, uint16_t *memory, size_
     if (b->fifo.held < PLACES)
         memory[b->fifo.held++] = (uint16_t)code;
     else
-        b->fifo.ovf = true;
+        b->fifo.ovf = 1;
     if (c->scanen && c->channel != c->high) {
         start(c);
         return DONE;
     }
-    c->converting = false;
+    c->converting = 0;
     if (b->requests.adinte && (!b->requests.fifoen || b->fifo.held >= 2u * b->requests.threshold))
-        b->requests.flags.adint = true;
+        b->requests.flags.adint = 1;
     return DONE;
 }
 
-uint32_t BASELINE(din)(struct dmm32_board *b, uint16_t *memory, size_t memory_length, uint8_t *eeprom, size_t eeprom_length, uint8_t lines)
+uint32_t BASELINE(din)(struct dmm32_board *b, uint16_t *memory, size_t memory_length, uint8_t *eeprom, size_t eeprom_length, uint32_t lines)
 {
     (void)eeprom;
     REFUSE_UNFIT(b, memory, memory_length, eeprom_length);
     if (lines > 15)
         return REFUSED(COWRIESTEP_REFUSED_DIN);
-    unsigned fallen = b->pins.din & ~(unsigned)lines;
-    set_gating(b, b->registers.counting, lines);
+    unsigned fallen = b->pins.din & ~lines;
+    set_gating(b, b->registers.counting, (uint8_t)lines);
     if (fallen & 1 && b->registers.counting & SRC0)
         clock0(b);
     if (fallen & 8 && b->converter.clken && !b->requests.clksel && gate12(b))
@@ -666,13 +693,13 @@ uint32_t BASELINE(din)(struct dmm32_board *b, uint16_t *memory, size_t memory_le
     return DONE;
 }
 
-uint32_t BASELINE(latch)(struct dmm32_board *b, uint16_t *memory, size_t memory_length, uint8_t *eeprom, size_t eeprom_length, bool high)
+uint32_t BASELINE(latch)(struct dmm32_board *b, uint16_t *memory, size_t memory_length, uint8_t *eeprom, size_t eeprom_length, uint32_t level)
 {
     (void)eeprom;
     REFUSE_UNFIT(b, memory, memory_length, eeprom_length);
-    if (high && !b->pins.latch && b->requests.dinte)
-        b->requests.flags.dint = true;
-    b->pins.latch = high;
+    if (level && !b->pins.latch && b->requests.dinte)
+        b->requests.flags.dint = 1;
+    b->pins.latch = level != 0;
     return DONE;
 }
 
@@ -741,17 +768,17 @@ uint32_t BASELINE(transfer_end)(struct dmm32_board *b, uint16_t *memory, size_t 
 
 /* ---- fresh boards */
 
-struct dmm32_board BASELINE(fresh)(uint8_t jumpers, bool zero_scale)
+struct dmm32_board BASELINE(fresh)(uint32_t jumpers, uint32_t zero_scale)
 {
     struct dmm32_board b = {0};
     set_outputs(&b.outputs.codes, zero_scale ? 0 : 2048);
-    b.clocks.timer.counter0.count.out = true;
-    b.clocks.timer.counter1.count.out = true;
-    b.clocks.timer.counter2.count.out = true;
+    b.clocks.timer.counter0.count.out = 1;
+    b.clocks.timer.counter1.count.out = 1;
+    b.clocks.timer.counter2.count.out = 1;
     b.ports.control = 0x9B;
     b.pins.din = 15;
-    b.wiring.inputs = jumpers;
-    b.wiring.zeroscale = zero_scale;
+    b.wiring.inputs = jumpers <= 255 ? (uint8_t)jumpers : 255;
+    b.wiring.zeroscale = zero_scale != 0;
     return b;
 }
 

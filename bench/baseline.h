@@ -6,15 +6,15 @@
 
 #define BOARD_EVENT(name) name(struct dmm32_board *board, uint16_t *memory, size_t memory_length, uint8_t *eeprom, size_t eeprom_length
 #define DECLARE_BASELINE(prefix)                                                                              \
-    struct dmm32_board prefix##fresh(uint8_t jumpers, bool zero_scale);                                       \
+    struct dmm32_board prefix##fresh(uint32_t jumpers, uint32_t zero_scale);                                  \
     uint32_t prefix##fresh_stores(uint16_t *memory, size_t memory_length, uint8_t *eeprom, size_t eeprom_length); \
     bool prefix##is_working(struct dmm32_board board, const uint16_t *memory, size_t memory_length);          \
-    uint32_t BOARD_EVENT(prefix##write_byte), uint8_t offset, uint8_t value);                                 \
-    uint32_t BOARD_EVENT(prefix##read_byte), uint8_t offset);                                                 \
-    uint32_t BOARD_EVENT(prefix##read_word), uint8_t offset);                                                 \
+    uint32_t BOARD_EVENT(prefix##write_byte), uint32_t offset, uint8_t value);                                \
+    uint32_t BOARD_EVENT(prefix##read_byte), uint32_t offset);                                                \
+    uint32_t BOARD_EVENT(prefix##read_word), uint32_t offset);                                                \
     uint32_t BOARD_EVENT(prefix##conversion_end), int16_t code);                                              \
-    uint32_t BOARD_EVENT(prefix##din), uint8_t lines);                                                        \
-    uint32_t BOARD_EVENT(prefix##latch), bool high);                                                          \
+    uint32_t BOARD_EVENT(prefix##din), uint32_t lines);                                                       \
+    uint32_t BOARD_EVENT(prefix##latch), uint32_t level);                                                     \
     uint32_t BOARD_EVENT(prefix##port_a_pins), uint8_t pins);                                                 \
     uint32_t BOARD_EVENT(prefix##port_b_pins), uint8_t pins);                                                 \
     uint32_t BOARD_EVENT(prefix##port_c_pins), uint8_t pins);                                                 \

@@ -31,15 +31,15 @@ struct state {
 #define LENT struct dmm32_board *, uint16_t *, size_t, uint8_t *, size_t
 struct calls {
     const char *name;
-    struct dmm32_board (*fresh)(uint8_t, bool);
+    struct dmm32_board (*fresh)(uint32_t, uint32_t);
     uint32_t (*fresh_stores)(uint16_t *, size_t, uint8_t *, size_t);
     bool (*is_working)(struct dmm32_board, const uint16_t *, size_t);
-    uint32_t (*write_byte)(LENT, uint8_t, uint8_t);
-    uint32_t (*read_byte)(LENT, uint8_t);
-    uint32_t (*read_word)(LENT, uint8_t);
+    uint32_t (*write_byte)(LENT, uint32_t, uint8_t);
+    uint32_t (*read_byte)(LENT, uint32_t);
+    uint32_t (*read_word)(LENT, uint32_t);
     uint32_t (*conversion_end)(LENT, int16_t);
-    uint32_t (*din)(LENT, uint8_t);
-    uint32_t (*latch)(LENT, bool);
+    uint32_t (*din)(LENT, uint32_t);
+    uint32_t (*latch)(LENT, uint32_t);
     uint32_t (*port_a_pins)(LENT, uint8_t);
     uint32_t (*port_b_pins)(LENT, uint8_t);
     uint32_t (*port_c_pins)(LENT, uint8_t);
@@ -68,7 +68,7 @@ static void write_to(struct state *s, uint8_t offset, uint8_t value)
 
 static void fresh(struct state *s)
 {
-    s->board = dmm32_fresh(COWRIESTEP_JUMPERS_A, false);
+    s->board = dmm32_fresh(COWRIESTEP_JUMPERS_A, 0);
     dmm32_fresh_stores(s->memory, PLACES, s->eeprom, EEPROM_BYTES);
     write_to(s, 2, 3);
     write_to(s, 3, 5);
@@ -181,7 +181,7 @@ static void single(const char *function, unsigned long times)
             repeat(&events[e], 1, times);
 }
 
-/* ---- the record's fields, and the most that a working board has in each */
+/* ---- the record's fields, and the most that a working board has in each: 1 in a flag */
 
 #define COUNTER(X, n)                                                                                                                             \
     X(clocks.timer.n.control, 63) X(clocks.timer.n.trigger, 1) X(clocks.timer.n.count.count_register, 65535) X(clocks.timer.n.count.element, 65535)  \
@@ -228,14 +228,13 @@ static void put(struct dmm32_board *b, const struct field *f, unsigned value)
 
 /* ---- comparing */
 
+/* Records are compared as their bytes; fields tell where they differ. */
 static bool same_state(const struct state *x, const struct state *y, const char *name)
 {
-    bool same = true;
-    for (int i = 0; i < FIELD_COUNT; i++)
-        if (get(&x->board, &fields[i]) != get(&y->board, &fields[i])) {
+    bool same = memcmp(&x->board, &y->board, sizeof x->board) == 0;
+    for (int i = 0; i < FIELD_COUNT && !same; i++)
+        if (get(&x->board, &fields[i]) != get(&y->board, &fields[i]))
             fprintf(stderr, "bench: %s: library %u, %s %u\n", fields[i].name, get(&x->board, &fields[i]), name, get(&y->board, &fields[i]));
-            same = false;
-        }
     if (memcmp(x->memory, y->memory, sizeof x->memory) != 0 || memcmp(x->eeprom, y->eeprom, sizeof x->eeprom) != 0) {
         fprintf(stderr, "bench: the memories of library and %s differ\n", name);
         same = false;
@@ -298,7 +297,7 @@ static void random_counter(struct dmm32_counter *c)
     if (c->control & 4 && c->count.count_register == 1)
         c->count.count_register = 2;
     if (c->control == 0)
-        c->count.out = true;
+        c->count.out = 1;
 }
 
 /* A working board in any state. */
@@ -324,20 +323,26 @@ static void random_board(struct state *s)
         s->eeprom[i] = (uint8_t)below(256);
 }
 
-/* One field or one place of the memory has some other value. */
+/* One field, one byte or one place of the memory has some other value; a flag is its opposite or is none. */
 static void damage(struct state *s)
 {
-    if (below(4) == 0) {
+    const struct field *f = &fields[below(FIELD_COUNT)];
+    unsigned beyond = f->most + 1 + (below(2) ? 0 : below(65536));
+    switch (below(8)) {
+    case 0:
+    case 1:
         s->memory[below(PLACES)] ^= (uint16_t)(1u << below(16));
-    } else {
-        const struct field *f = &fields[below(FIELD_COUNT)];
-        unsigned beyond = f->most + 1 + (below(2) ? 0 : below(65536));
-        put(&s->board, f, f->most == 1 ? !get(&s->board, f) : beyond);
+        break;
+    case 2:
+        ((unsigned char *)&s->board)[below(sizeof s->board)] ^= (unsigned char)(1u << below(8));
+        break;
+    default:
+        put(&s->board, f, f->most == 1 && below(3) == 0 ? !get(&s->board, f) : beyond);
     }
 }
 
 /* A byte that a guest may well write at an offset. */
-static uint8_t likely_byte(uint8_t offset)
+static uint8_t likely_byte(uint32_t offset)
 {
     static const uint8_t words[] = {0x14, 0x34, 0x30, 0x24, 0x54, 0x74, 0x70, 0x64, 0x94, 0xB4, 0xB0, 0xA4, 0x00, 0x40, 0x80, 0x9B, 0x80, 0xA5};
     static const uint8_t commands[] = {0x80, 0xC0, 0x20, 0x08, 0x10, 0xA0};
@@ -360,7 +365,8 @@ static uint8_t likely_byte(uint8_t offset)
 
 struct happening {
     unsigned kind;
-    uint8_t offset, value;
+    uint32_t offset, level;
+    uint8_t value;
     int16_t code;
     size_t memory_length, eeprom_length;
 };
@@ -368,14 +374,17 @@ struct happening {
 static struct happening random_event(void)
 {
     static const uint8_t kinds[] = {0, 0, 0, 0, 0, 1, 1, 1, 2, 2, 3, 3, 3, 3, 4, 4, 5, 6, 7, 8, 9, 9, 9, 9, 10};
-    struct happening h = {kinds[below(sizeof kinds)], (uint8_t)below(16), 0, (int16_t)below(65536), PLACES, EEPROM_BYTES};
+    static const uint32_t wide[] = {16, 255, 256, 263, 271, 65536, 65551, 0x80000000, 0xFFFFFFFF};
+    struct happening h = {kinds[below(sizeof kinds)], below(16), below(16), 0, (int16_t)below(65536), PLACES, EEPROM_BYTES};
     h.value = below(2) ? likely_byte(h.offset) : (uint8_t)below(256);
     if (h.kind == 2 && below(8))
         h.offset = 0;
     else if (below(30) == 0)
-        h.offset = (uint8_t)below(256);
-    if (h.kind == 4 && below(8))
-        h.value &= 15;
+        h.offset = below(2) ? below(256) : wide[below(sizeof wide / sizeof *wide)];
+    if (below(8) == 0)
+        h.level = wide[below(sizeof wide / sizeof *wide)];
+    else if (h.kind == 5)
+        h.level &= 1;
     if (below(200) == 0)
         h.memory_length = below(PLACES + 1);
     if (below(200) == 0)
@@ -396,9 +405,9 @@ static uint32_t happen(const struct calls *f, struct state *s, const struct happ
     case 3:
         return f->conversion_end(GIVEN, h->code);
     case 4:
-        return f->din(GIVEN, h->value);
+        return f->din(GIVEN, h->level);
     case 5:
-        return f->latch(GIVEN, h->value & 1);
+        return f->latch(GIVEN, h->level);
     case 6:
         return f->port_a_pins(GIVEN, h->value);
     case 7:
@@ -414,8 +423,8 @@ static uint32_t happen(const struct calls *f, struct state *s, const struct happ
 
 static void check_fresh(struct state *s)
 {
-    uint8_t jumpers = (uint8_t)(below(8) ? below(4) : below(256));
-    bool zero_scale = below(2);
+    uint32_t jumpers = below(8) ? below(4) : below(2) ? below(256) : below(65536) << 8;
+    uint32_t zero_scale = below(2) << below(32);
     size_t memory_length = below(8) ? PLACES : below(PLACES), eeprom_length = below(8) ? EEPROM_BYTES : below(EEPROM_BYTES);
     uint32_t answers[BOARDS];
     for (int b = 0; b < BOARDS; b++) {
@@ -453,10 +462,11 @@ static void check_random(uint64_t seed, unsigned long count)
         }
         struct happening h = random_event();
         uint32_t answers[BOARDS];
-        char what[100];
+        char what[140];
         for (int b = 0; b < BOARDS; b++)
             answers[b] = happen(&boards[b], &s[b], &h);
-        snprintf(what, sizeof what, "random event %lu of seed %" PRIu64 ", kind %u, offset %u, value %u", n, seed, h.kind, h.offset, h.value);
+        snprintf(what, sizeof what, "random event %lu of seed %" PRIu64 ", kind %u, offset %" PRIu32 ", level %" PRIu32 ", value %u", n, seed, h.kind, h.offset,
+                 h.level, h.value);
         check_same(s, answers, what);
         kinds[COWRIESTEP_KIND(answers[0])]++;
         refusals[COWRIESTEP_REFUSAL(answers[0])]++;
