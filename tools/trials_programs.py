@@ -10,6 +10,10 @@ ROOT = os.path.dirname(os.path.dirname(os.path.abspath(__file__)))
 KIT = os.environ.get("RATTLE_HOME") or os.path.dirname(os.path.dirname(os.path.realpath(shutil.which("rt"))))
 OWN = os.path.join(KIT, "on", platform.machine())
 CASES = os.path.join(OWN, "bin", "rattle-cases")
+# Programs are for x86-64: what runs one here.
+LIBRARIES = os.path.join(OWN, "toolchain", "lib")
+LOADER = os.path.join(LIBRARIES, "ld-linux-x86-64.so.2")
+RUNS = [] if platform.machine() == "x86_64" else [os.path.join(OWN, "toolchain", "bin", "qemu-x86_64"), LOADER, "--library-path", LIBRARIES]
 
 # A compiler at a level of its own, since the longer runs are slow at -O0, and a linker that keeps the program and then fails, so that each program
 # is compiled once only.
@@ -117,7 +121,7 @@ class Programs:
         """The first line that is not the expected one, or None."""
         with open(os.path.join(self.sources.work, "given"), "wb") as file:
             file.write(given)
-        with open(os.path.join(self.sources.work, "given"), "rb") as file, subprocess.Popen([self.program], stdin=file, stdout=subprocess.PIPE) as run:
+        with open(os.path.join(self.sources.work, "given"), "rb") as file, subprocess.Popen([*RUNS, self.program], stdin=file, stdout=subprocess.PIPE) as run:
             limit = threading.Timer(300, run.kill)
             limit.start()
             try:
