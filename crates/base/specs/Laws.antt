@@ -1,6 +1,6 @@
 -- Laws of choices and of rows of tests that proofs cite.
 use mathlib.Core.Path.{_≡_, refl}
-use mathlib.Core.Bool.{Bool, true, false, _&&_}
+use mathlib.Core.Bool.{Bool, true, false, not, _&&_}
 use Prim.Native.Nat.{ℕ, _≤_}
 use native.Mathlib.Omega.{arith}
 use Rattle.base.specs.Choice.{if_then_else_}
@@ -33,3 +33,12 @@ both false b h = never h
 pub under-and : (a b : Bool) → (a && b) ≡ false → a ≡ true → b ≡ false
 under-and true b h e = h
 under-and false b h e = cc
+
+-- what a denied test says
+pub not-not : (t : Bool) → not t ≡ false → t ≡ true
+not-not true h = refl
+not-not false h = cc
+
+pub not-true : (t : Bool) → not t ≡ true → t ≡ false
+not-true true h = cc
+not-true false h = refl

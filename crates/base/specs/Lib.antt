@@ -6,3 +6,4 @@ pub mod Weights
 pub mod Checks
 pub mod Unrefused
 pub mod Flags
+pub mod Beside

@@ -1,7 +1,7 @@
 -- A row of tests, all of which hold or not. The code writes `t0 & t1 & t2`, a definition `all (t0 ∷ t1 ∷ t2 ∷ [])`.
 use mathlib.Core.Path.{_≡_, refl}
 use mathlib.Core.Bool.{Bool, true, false, _&&_}
-use mathlib.Core.List.{List, [], _∷_}
+use mathlib.Core.List.{List, [], _∷_, _++_}
 use Rattle.base.specs.Laws.{never, both}
 
 abbrev pub row : Bool → List Bool → Bool
@@ -38,3 +38,19 @@ each-row false (x ∷ xs) p q = never p
 pub every : (l : List Bool) → Each l → all l ≡ true
 every [] q = refl
 every (x ∷ xs) q = each-row x xs (q .0) (q .1)
+
+-- ---- rows in a row
+pub row-first : (a : Bool) (l : List Bool) → a && all l ≡ row a l
+row-first true [] = refl
+row-first false [] = refl
+row-first true (x ∷ l) = refl
+row-first false (x ∷ l) = row-first false l
+
+row-append : (a : Bool) (l k : List Bool) → row a l && all k ≡ row a (l ++ k)
+row-append a [] k = row-first a k
+row-append a (x ∷ l) k = row-append (a && x) l k
+
+-- both of two rows hold where their tests in one row do
+pub all-append : (l k : List Bool) → all l && all k ≡ all (l ++ k)
+all-append [] k = refl
+all-append (x ∷ l) k = row-append x l k

@@ -23,7 +23,7 @@ pub record WorkingConverter (c : Converter) : Type 0 where
   pub scanen : c .scanen ≤ 1
   pub clken : c .clken ≤ 1
 
--- the tests that the code makes
+-- the tests, of which the code makes several at once
 abbrev pub converterTests : Converter → List Bool
 converterTests c =
     leb (c .low) 31

@@ -1,7 +1,7 @@
 // Channels, triggers and ends of conversions (manual 10.1, 11.3, 11.4, Base + 0, 2, 3, 7, 8, 9).
 ghost use mathlib.Core.Path.{_≡_};
 ghost use Prim.Native.Nat.{_+_, _%_};
-ghost use Rattle.converter.specs.Channels.{nextChannel, started, triggered, softwareTriggered, clockTriggered, ended, isLast};
+ghost use Rattle.converter.specs.Channels.{nextChannel, started, triggered, softwareTriggered, clockTriggered, isLast};
 ghost use Rattle.converter.specs.Registers.{writtenLow, writtenHigh, writtenScanen, writtenClken, statusBits, freshConverter};
 ghost use Rattle.converter.specs.Working.{isWorking};
 
@@ -66,18 +66,6 @@ pub fn clock_trigger(c: Converter, clksel: bool, out2: bool, din3: bool, stopped
         c,
         (c.clken == 1) & ((clksel & out2) | (!clksel & din3 & !stopped)),
     )
-}
-
-// A conversion ends: with SCANEN, and a channel that is not the high one, the next of the scan starts; otherwise none runs.
-pub fn end(c: Converter) -> Converter
-    ensures { λ r. ⌜ r ≡ ended c ⌝ }
-{
-    if (c.scanen == 1) & (c.channel != c.high) {
-        return start(c);
-    }
-    let mut next = c;
-    next.converting = 0;
-    next
 }
 
 // Whether an end now is a single one or the last of its scan.
@@ -151,11 +139,10 @@ pub fn fresh_converter() -> Converter
 pub fn is_working(c: Converter) -> bool
     ensures { λ r. ⌜ r ≡ isWorking c ⌝ }
 {
-    (c.low <= 31)
-        & (c.high <= 31)
-        & (c.selected <= 31)
-        & (c.channel <= 31)
-        & (c.converting <= 1)
-        & (c.scanen <= 1)
-        & (c.clken <= 1)
+    let joined = base::join_words(
+        base::join_bytes(c.low, c.high),
+        base::join_bytes(c.selected, c.channel),
+    );
+    // the bits above 4 of each channel
+    (joined & 0xE0E0E0E0 == 0) & (c.converting <= 1) & (c.scanen <= 1) & (c.clken <= 1)
 }

@@ -6,18 +6,18 @@ use native.Mathlib.Omega.{arith}
 use borrow.Author.Tests.{eqb-false}
 use lib.Dec.{eqb}
 use Rattle.base.specs.Flags.{on, flag-le}
-use Rattle.base.specs.Laws.{by-choice, by-test, under-and}
+use Rattle.base.specs.Laws.{by-test, under-and}
 use Rattle.counting_modes.specs.Modes.{fromTwo}
 use Rattle.counting_modes.specs.Control.{command, setupOf}
-use Rattle.counting_element.specs.Element.{pieceTaken, pulseLoads, pulseCounts, pulseTaken, countedBy}
+use Rattle.counting_element.specs.Element.{pieceTaken}
 use Rattle.counting_element.specs.Working.{first-works, piece-works, gate-works, pulse-works}
 use Rattle.counting_bytes.specs.Bytes.{pieceOf}
 use Rattle.counting_bytes.specs.Working.{none-works, after-works, read-works, latch-works}
 use Rattle.counting.specs.Counter.{unprogrammed, programmed, latchedAs, commandedBy, commanded, pulsedAs, pulsed, gateMovedAs, gateMoved}
 use Rattle.counting.specs.Counter.{counterReadAs, counterRead, pieceRefused, pieceWritten, byteWrittenAs, byteWritten}
+use Rattle.counting.specs.Pulsed.{register-taken}
 use Rattle.counting.specs.Working.{Flags, Facts, Working}
 use Rattle.counting_modes.specs.declared.Mode.{Mode}
-use Rattle.counting_modes.specs.declared.Mode.the-variants.{TerminalCount, RateGenerator}
 use Rattle.counting_modes.specs.declared.Format.{Format}
 use Rattle.counting_modes.specs.declared.Command.{Command}
 use Rattle.counting_modes.specs.declared.Command.the-variants.{LatchCount, Program, NotModelled}
@@ -84,17 +84,7 @@ commanded-working c w k = go (command w) refl
     go (Program f m) e = programmed-working w f m e
     go NotModelled e = k
 
--- ---- a pulse leaves the count to load
-register-counted : (m : Mode) (k : Count) → countedBy m k .register ≡ k .register
-unfolding countedBy
-register-counted TerminalCount k = refl
-register-counted RateGenerator k = by-choice (λ (n : Count). n .register ≡ k .register) (eqb (k .element) 1) refl refl
-
-register-pulsed : (m : Mode) (gate trigger half : Bool) (k : Count) → pulseTaken m gate trigger half k .register ≡ k .register
-register-pulsed m gate trigger half k =
-    let P : Count → Type 0 = λ (n : Count). n .register ≡ k .register in
-    by-choice P (pulseLoads m trigger k) refl (by-choice P (pulseCounts m gate half k) (register-counted m k) refl)
-
+-- ---- a pulse
 pub pulsed-working : (c : Counter) (gate : Bool) → Working c → Working (pulsed c gate)
 unfolding pulsed
 pulsed-working c gate w = go (setupOf (c .control)) refl
@@ -109,7 +99,7 @@ pulsed-working c gate w = go (setupOf (c .control)) refl
           count = pulse-works m gate (on (c .trigger)) (on (c .bus .halfwritten)) (c .count) (w .flags .count);
           bus = w .flags .bus;
         })
-        (a .0, λ t o. a .1 t (sym (register-pulsed m gate (on (c .trigger)) (on (c .bus .halfwritten)) (c .count)) ∙ o))
+        (a .0, λ t o. a .1 t (sym (register-taken m gate (on (c .trigger)) (on (c .bus .halfwritten)) (c .count)) ∙ o))
 
 pub gate-working : (c : Counter) (was is : Bool) → Working c → Working (gateMoved c was is)
 unfolding gateMoved

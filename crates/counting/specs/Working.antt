@@ -1,12 +1,13 @@
 -- A working board's counter. The specification, "What is delivered": "Every register, channel, port, counter and divider is within its
 -- width or range ...; no mode 2 counter has 1 to load, and an unprogrammed counter's OUT is high."
-use Prim.Native.Nat.{_<_, _≤_}
+use Prim.Native.Nat.{ℕ, _<_, _≤_}
 use mathlib.Core.Path.{_≡_, refl, sym}
 use mathlib.Core.Bool.{Bool, true, false, not, _&&_}
 use mathlib.Core.List.{List, [], _∷_}
 use borrow.Author.Tests.{eqb-true, eqb-false, eq-eqb, ne-eqb, ltb-true, lt-ltb, leb-true, le-leb}
 use lib.Dec.{eqb, ltb, leb}
 use Rattle.base.specs.Flags.{on}
+use Rattle.base.specs.Laws.{both}
 use Rattle.base.specs.Tests.{all, each, every}
 use Rattle.counting_modes.specs.Modes.{fromTwo}
 use Rattle.counting_modes.specs.Control.{setupOf}
@@ -31,16 +32,26 @@ pub record Working (c : Counter) : Type 0 where
   pub flags : Flags c
   pub facts : Facts (setupOf (c .control)) c
 
--- the test that the code makes
+-- the tests of the flags
 abbrev pub flagTests : Counter → List Bool
 flagTests c = leb (c .trigger) 1 ∷ countWorks (c .count) ∷ busWorks (c .bus) ∷ []
 
-abbrev pub tests : Setup → Counter → List Bool
-tests Unprogrammed c = all (flagTests c) ∷ eqb (c .control) 0 ∷ on (c .count .out) ∷ []
-tests (Programmed f m) c = all (flagTests c) ∷ ltb (c .control) 64 ∷ not (fromTwo m && eqb (c .count .register) 1) ∷ []
+abbrev pub flagsWork : Counter → Bool
+flagsWork c = all (flagTests c)
+
+-- the tests of the facts
+abbrev pub controlTests : Setup → ℕ → ℕ → ℕ → List Bool
+controlTests Unprogrammed control register out = eqb control 0 ∷ on out ∷ []
+controlTests (Programmed f m) control register out = ltb control 64 ∷ not (fromTwo m && eqb register 1) ∷ []
+
+unfoldable pub controlWorks : ℕ → ℕ → ℕ → Bool
+controlWorks control register out = all (controlTests (setupOf control) control register out)
+
+abbrev pub controlFits : Counter → Bool
+controlFits c = controlWorks (c .control) (c .count .register) (c .count .out)
 
 abbrev pub working : Counter → Bool
-working c = all (tests (setupOf (c .control)) c)
+working c = flagsWork c && controlFits c
 
 -- ---- the test holds where the facts do, and only there
 not-both : (a b : Bool) → not (a && b) ≡ true → a ≡ true → b ≡ false
@@ -52,28 +63,35 @@ both-not : (a b : Bool) → (a ≡ true → b ≡ false) → not (a && b) ≡ tr
 both-not true b h = rw (h refl)
 both-not false b h = refl
 
-flags-of : (c : Counter) → all (flagTests c) ≡ true → Flags c
+flags-of : (c : Counter) → flagsWork c ≡ true → Flags c
 flags-of c h =
     let e = each (flagTests c) h in
     record { trigger = leb-true _ _ (e .0); count = count-of _ (e .1 .0); bus = bus-of _ (e .1 .1 .0) }
 
-flags-to : (c : Counter) → Flags c → all (flagTests c) ≡ true
+flags-to : (c : Counter) → Flags c → flagsWork c ≡ true
 flags-to c w = every (flagTests c) (le-leb _ _ (w .trigger), (count-to _ (w .count), (bus-to _ (w .bus), tt)))
 
-facts-of : (s : Setup) (c : Counter) → all (tests s c) ≡ true → Flags c × Facts s c
-facts-of Unprogrammed c h = let e = each (tests Unprogrammed c) h in (flags-of c (e .0), (eqb-true _ _ (e .1 .0), e .1 .1 .0))
-facts-of (Programmed f m) c h =
-    let e = each (tests (Programmed f m) c) h in
-    (flags-of c (e .0), (ltb-true _ _ (e .1 .0), λ t. eqb-false _ _ (not-both (fromTwo m) (eqb (c .count .register) 1) (e .1 .1 .0) t)))
+abbrev testsOf : Setup → Counter → List Bool
+testsOf s c = controlTests s (c .control) (c .count .register) (c .count .out)
 
-facts-to : (s : Setup) (c : Counter) → Flags c → Facts s c → all (tests s c) ≡ true
-facts-to Unprogrammed c k w = every (tests Unprogrammed c) (flags-to c k, (eq-eqb _ _ (w .0), (w .1, tt)))
-facts-to (Programmed f m) c k w =
-    every (tests (Programmed f m) c)
-    (flags-to c k, (lt-ltb _ _ (w .0), (both-not (fromTwo m) (eqb (c .count .register) 1) (λ t. ne-eqb _ _ (w .1 t)), tt)))
+facts-of : (s : Setup) (c : Counter) → all (testsOf s c) ≡ true → Facts s c
+facts-of Unprogrammed c h = let e = each (testsOf Unprogrammed c) h in (eqb-true _ _ (e .0), e .1 .0)
+facts-of (Programmed f m) c h =
+    let e = each (testsOf (Programmed f m) c) h in
+    (ltb-true _ _ (e .0), λ t. eqb-false _ _ (not-both (fromTwo m) (eqb (c .count .register) 1) (e .1 .0) t))
+
+facts-to : (s : Setup) (c : Counter) → Facts s c → all (testsOf s c) ≡ true
+facts-to Unprogrammed c w = every (testsOf Unprogrammed c) (eq-eqb _ _ (w .0), (w .1, tt))
+facts-to (Programmed f m) c w =
+    every (testsOf (Programmed f m) c)
+    (lt-ltb _ _ (w .0), (both-not (fromTwo m) (eqb (c .count .register) 1) (λ t. ne-eqb _ _ (w .1 t)), tt))
 
 pub working-of : (c : Counter) → working c ≡ true → Working c
-working-of c h = let f = facts-of (setupOf (c .control)) c h in record { flags = f .0; facts = f .1 }
+unfolding controlWorks
+working-of c h =
+    let e = both (flagsWork c) (controlFits c) h in
+    record { flags = flags-of c (e .0); facts = facts-of (setupOf (c .control)) c (e .1) }
 
 pub working-to : (c : Counter) → Working c → working c ≡ true
-working-to c w = facts-to (setupOf (c .control)) c (w .flags) (w .facts)
+unfolding controlWorks
+working-to c w = rw (flags-to c (w .flags)) (facts-to (setupOf (c .control)) c (w .facts))

@@ -12,7 +12,7 @@ ghost use mathlib.Core.Path.{_≡_};
 ghost use Rattle.counting_modes.specs.Control.{setupOf};
 ghost use Rattle.counting.specs.Counter.{unprogrammed, programmed, latchedAs, commanded, pulsed, gateMoved, counterRead};
 ghost use Rattle.counting.specs.Counter.{pieceRefused, byteRefused, pieceWritten, offered, byteWritten};
-ghost use Rattle.counting.specs.Working.{working};
+ghost use Rattle.counting.specs.Working.{flagsWork, controlWorks, Working};
 
 #[repr(C)]
 pub struct Counter {
@@ -103,6 +103,49 @@ pub fn pulse(c: Counter, gate: bool) -> Counter
             d.trigger = 0;
             d
         }
+    }
+}
+
+// One CLK pulse of a working counter, as `pulse`: bit 2 of its control bits is the mode, and only what the pulse changes is stored.
+pub fn pulse_working(c: Counter, gate: bool) -> Counter
+    requires { ⌜ Working c ⌝ }
+    ensures { λ r. ⌜ r ≡ pulsed c gate ⌝ }
+{
+    if c.control == 0 {
+        return c;
+    }
+    let rate = c.control / 4 % 2 == 1;
+    let mut d = c;
+    d.trigger = 0;
+    if (c.count.waiting == 1) | (c.count.loaded == 1) & (rate & (c.trigger == 1)) {
+        d.count.element = c.count.register;
+        let out = rate as u8;
+        d.count.out = out;
+        d.count.waiting = 0;
+        d.count.loaded = 1;
+        d
+    } else if !((c.count.loaded == 1) & gate) {
+        d
+    } else if rate {
+        if c.count.element == 1 {
+            d.count.element = c.count.register;
+            d.count.out = 1;
+            d
+        } else {
+            let v = std::num::wrapping_sub_u16(c.count.element, 1);
+            let out = (v != 1) as u8;
+            d.count.element = v;
+            d.count.out = out;
+            d
+        }
+    } else if c.bus.halfwritten == 1 {
+        d
+    } else {
+        let v = std::num::wrapping_sub_u16(c.count.element, 1);
+        let out = ((c.count.out == 1) | (v == 0)) as u8;
+        d.count.element = v;
+        d.count.out = out;
+        d
     }
 }
 
@@ -204,17 +247,26 @@ pub fn write_byte(c: Counter, byte: u8) -> Counter
     }
 }
 
-// Whether the counter is a working board's.
-pub fn is_working(c: Counter) -> bool
-    ensures { λ r. ⌜ r ≡ working c ⌝ }
+// Whether every flag is 0 or 1.
+pub fn flags_work(c: Counter) -> bool
+    ensures { λ r. ⌜ r ≡ flagsWork c ⌝ }
 {
     let k = c.count;
     let s = c.bus;
-    let flags = (c.trigger <= 1) & counting_element::is_working(k) & counting_bytes::is_working(s);
-    match control::setup_of(c.control) {
-        Setup::Unprogrammed => flags & (c.control == 0) & (c.count.out == 1),
-        Setup::Programmed(_, m) => flags
-            & (c.control < 64)
-            & !(tables::from_two(m) & (c.count.register == 1)),
+    (c.trigger <= 1) & counting_element::is_working(k) & counting_bytes::is_working(s)
+}
+
+// Whether the six control bits are 0 or set up mode 0 or 2, and suit the count register and OUT.
+pub fn control_works(control: u8, register: u16, out: u8) -> bool
+    ensures { λ r. ⌜ r ≡ controlWorks control register out ⌝ }
+{
+    if control == 0 {
+        out == 1
+    } else {
+        match control {
+            16 | 32 | 48 => true,
+            20 | 28 | 36 | 44 | 52 | 60 => register != 1,
+            _ => false,
+        }
     }
 }

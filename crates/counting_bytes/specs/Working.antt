@@ -21,7 +21,7 @@ pub record WorkingBus (s : Bus) : Type 0 where
   pub halfread : s .halfread ≤ 1
   pub halfwritten : s .halfwritten ≤ 1
 
--- the tests that the code makes
+-- the tests, of which the code makes several at once
 abbrev pub busTests : Bus → List Bool
 busTests s = leb (s .latched) 1 ∷ leb (s .halfread) 1 ∷ leb (s .halfwritten) 1 ∷ []
 

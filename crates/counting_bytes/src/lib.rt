@@ -142,5 +142,6 @@ pub fn take_latch(s: Bus, v: u16) -> Bus
 pub fn is_working(s: Bus) -> bool
     ensures { λ r. ⌜ r ≡ busWorks s ⌝ }
 {
-    (s.latched <= 1) & (s.halfread <= 1) & (s.halfwritten <= 1)
+    // the bits that no flag has
+    (base::join_bytes(s.latched, s.halfread) & 0xFEFE == 0) & (s.halfwritten <= 1)
 }

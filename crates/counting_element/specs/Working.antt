@@ -21,7 +21,7 @@ pub record WorkingCount (k : Count) : Type 0 where
   pub waiting : k .waiting ≤ 1
   pub loaded : k .loaded ≤ 1
 
--- the tests that the code makes
+-- the tests, of which the code makes several at once
 abbrev pub countTests : Count → List Bool
 countTests k = leb (k .out) 1 ∷ leb (k .waiting) 1 ∷ leb (k .loaded) 1 ∷ []
 

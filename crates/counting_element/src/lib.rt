@@ -141,5 +141,6 @@ pub fn take_pulse(m: Mode, gate: bool, trigger: bool, half: bool, k: Count) -> C
 pub fn is_working(k: Count) -> bool
     ensures { λ r. ⌜ r ≡ countWorks k ⌝ }
 {
-    (k.out <= 1) & (k.waiting <= 1) & (k.loaded <= 1)
+    // the bits that no flag has
+    base::join_words(base::join_bytes(k.out, k.waiting), k.loaded) & 0xFFFEFEFE == 0
 }

@@ -2,8 +2,9 @@
 // oldest first (`queue`), and of the memory that holds them (`layout`). Which places those are is known in this crate alone.
 ghost use mathlib.Core.Path.{_≡_};
 ghost use mathlib.Core.List.{[]};
-ghost use Prim.Native.Nat.{_≤_, _<_};
-ghost use lib.ListN.{length, drop};
+ghost use Prim.Native.Nat.{_+_, _*_, _≤_, _<_};
+ghost use lib.Dec.{eqb};
+ghost use lib.ListN.{length, take, drop};
 ghost use Rattle.fifo.specs.Samples.{oldestOf, pushed, popped};
 ghost use Rattle.fifo.specs.Flags.{EF, HF, FF, flagBits};
 ghost use Rattle.fifo.specs.Queue.{zeros, queue, emptyFifo, pushedTo, poppedFrom, Leaves, isWorking, WorkingFifo};
@@ -16,28 +17,63 @@ pub struct Fifo {
     pub ovf: u16,
 }
 
-// Whether every place from `from` on is 0: the bits of all of them joined are none.
-fn are_zero(memory: &[u16], from: usize) -> bool
-    ensures { λ r. ⌜ r ≡ zeros (drop from (now (memory .entry))) ⌝ }
+// The bits of the `n` places from `at` on, joined: none where every place is 0.
+fn bits_of(memory: &[u16], at: usize, n: usize) -> u16
+    requires { ⌜ at + n ≤ length (now memory) ⌝ }
+    ensures { λ r. ⌜ eqb r 0 ≡ zeros (take n (drop at (now (memory .entry)))) ⌝ }
 {
     let mut bits: u16 = 0;
-    let mut i = from;
-    while i < memory.len() {
-        bits = bits | memory[i];
+    let mut i: usize = 0;
+    while i < n {
+        bits = bits | memory[at + i];
         i += 1;
     }
-    bits == 0
+    bits
+}
+
+// Whether every place from `from` on is 0, where these are `n` to 2 `n` places: the first `n` of them and the last `n`, which may overlap.
+fn ends_are_zero(memory: &[u16], from: usize, n: usize) -> bool
+    requires { ⌜ (length (now memory) ≡ 512) × (from + n ≤ 512) × (512 ≤ from + 2 * n) ⌝ }
+    ensures { λ r. ⌜ r ≡ zeros (drop from (now (memory .entry))) ⌝ }
+{
+    bits_of(memory, from, n) | bits_of(memory, 512 - n, n) == 0
+}
+
+// Whether every place from `from` on is 0: blocks of fixed length, which take few instructions, where there are more than 8.
+fn are_zero(memory: &[u16], from: usize) -> bool
+    requires { ⌜ (length (now memory) ≡ 512) × (from ≤ 512) ⌝ }
+    ensures { λ r. ⌜ r ≡ zeros (drop from (now (memory .entry))) ⌝ }
+{
+    if from < 448 {
+        if from < 256 {
+            ends_are_zero(memory, from, 256)
+        } else if from < 384 {
+            ends_are_zero(memory, from, 128)
+        } else {
+            ends_are_zero(memory, from, 64)
+        }
+    } else if from < 504 {
+        if from < 480 {
+            ends_are_zero(memory, from, 32)
+        } else if from < 496 {
+            ends_are_zero(memory, from, 16)
+        } else {
+            ends_are_zero(memory, from, 8)
+        }
+    } else {
+        bits_of(memory, from, 512 - from) == 0
+    }
 }
 
 // Whether this is a working board's sample memory.
 pub fn is_working(f: Fifo, memory: &[u16]) -> bool
     ensures { λ r. ⌜ r ≡ isWorking f (now (memory .entry)) ⌝ }
 {
-    (memory.len() == 512)
-        & (f.held <= 512)
-        & (f.ovf <= 1)
-        & ((f.ovf != 1) | (f.held == 512))
-        & are_zero(memory, f.held as usize)
+    if (memory.len() == 512) & (f.held <= 512) {
+        (f.ovf <= 1) & ((f.ovf != 1) | (f.held == 512)) & are_zero(memory, f.held as usize)
+    } else {
+        false
+    }
 }
 
 // The oldest sample, or 65535 where none is held.
@@ -63,13 +99,6 @@ pub fn push(f: Fifo, memory: &mut [u16], sample: u16) -> Fifo
     } else {
         Fifo { held, ovf: 1 }
     }
-}
-
-// How many samples are held after an end: one more, or 512 still.
-pub fn held_after_push(f: Fifo) -> u16
-    ensures { λ r. ⌜ r ≡ pushedTo f .held ⌝ }
-{
-    if f.held < 512 { f.held + 1 } else { f.held }
 }
 
 // The first place's number goes, the other held ones move down by a place, and the last of these becomes 0.

@@ -3,3 +3,4 @@ pub mod Fresh
 pub mod View
 pub mod Working
 pub mod Kept
+pub mod Fits

@@ -20,10 +20,10 @@ doutPins b =
     + weightOf (shows (bit (b .registers .counting) 16) (on (b .clocks .timer .counter0 .count .out)) (bit (b .registers .dout) 1)) 1
 
 -- Base+8 read, bits 6 and 5: S/D1 speaks of channels 8-15 and 24-31, S/D0 of 0-7 and 16-23; 1 is single-ended. Configurations A to D of 5.4
-abbrev pub singleEnded : Board → ℕ
-singleEnded b =
-    if eqb (b .wiring .inputs) 0 then 96
-    else if eqb (b .wiring .inputs) 1 then 0
-    else if eqb (b .wiring .inputs) 2 then 64
-    else if eqb (b .wiring .inputs) 3 then 32
+abbrev pub singleEnded : ℕ → ℕ
+singleEnded inputs =
+    if eqb inputs 0 then 96
+    else if eqb inputs 1 then 0
+    else if eqb inputs 2 then 64
+    else if eqb inputs 3 then 32
     else 0

@@ -2,22 +2,25 @@
 -- within its width or range, DACBUSY has at most 100 ticks left, ...; no mode 2 counter has 1 to load, and an unprogrammed counter's OUT is high."
 use Prim.Native.Nat.{_≤_}
 use mathlib.Core.Path.{_≡_}
-use mathlib.Core.Bool.{Bool, true}
+use mathlib.Core.Bool.{Bool, true, _&&_}
 use mathlib.Core.List.{List, [], _∷_}
 use borrow.Author.Tests.{leb-true, le-leb}
 use lib.Dec.{leb}
+use Rattle.base.specs.Laws.{both}
 use Rattle.base.specs.Tests.{all, each, every}
 use Rattle.converter.specs.Working as converter
 use Rattle.requests.specs.Working.{WorkingRequests, requestsWork, requests-of, requests-to}
 use Rattle.outputs.specs.Working.{WorkingOutputs, outputsWork}
 use Rattle.outputs.specs.Laws.{outputs-of, outputs-to}
-use Rattle.timer.specs.Working.{WorkingTimer, workingTimer, timer-of, timer-to}
+use Rattle.timer.specs.Working.{WorkingTimer, flagsWork, controlsWork, timer-of, timer-to}
 use Rattle.ports.specs.Working.{WorkingPorts, portsWork}
 use Rattle.ports.specs.Laws.{ports-of, ports-to}
 use Rattle.calibration.specs.Working.{WorkingCalibration, calibrationWorks}
 use Rattle.calibration.specs.Laws.{calibration-of, calibration-to}
 use Rattle.machine.specs.declared.Registers.{Registers}
 use Rattle.machine.specs.declared.Clocks.{Clocks}
+use Rattle.machine.specs.declared.Pins.{Pins}
+use Rattle.machine.specs.declared.Wiring.{Wiring}
 use Rattle.machine.specs.declared.Board.{Board}
 
 -- four pages, three DOUT bits, four bits of Base+11; Base+10 is any byte
@@ -44,51 +47,55 @@ pub record WorkingMachine (b : Board) : Type 0 where
   pub inputs : b .wiring .inputs ≤ 3
   pub zeroscale : b .wiring .zeroscale ≤ 1
 
--- the tests that the code makes
-abbrev pub machineTests : Board → List Bool
-machineTests b =
+-- the tests; the timer's control bits are looked at last
+abbrev pub registerTests : Registers → List Bool
+registerTests r = leb (r .page) 3 ∷ leb (r .dout) 7 ∷ leb (r .range) 15 ∷ []
+
+abbrev pub pinTests : Pins → Wiring → List Bool
+pinTests p w = leb (p .din) 15 ∷ leb (p .latch) 1 ∷ leb (w .inputs) 3 ∷ leb (w .zeroscale) 1 ∷ []
+
+abbrev pub mostTests : Board → List Bool
+mostTests b =
     converter.isWorking (b .converter)
     ∷ requestsWork (b .requests)
-    ∷ leb (b .registers .page) 3
-    ∷ leb (b .registers .dout) 7
-    ∷ leb (b .registers .range) 15
+    ∷ all (registerTests (b .registers))
     ∷ outputsWork (b .outputs)
-    ∷ workingTimer (b .clocks .timer)
     ∷ leb (b .clocks .hundred) 99
     ∷ leb (b .clocks .thousand) 999
     ∷ portsWork (b .ports)
     ∷ calibrationWorks (b .calibration)
-    ∷ leb (b .pins .din) 15
-    ∷ leb (b .pins .latch) 1
-    ∷ leb (b .wiring .inputs) 3
-    ∷ leb (b .wiring .zeroscale) 1
+    ∷ all (pinTests (b .pins) (b .wiring))
+    ∷ flagsWork (b .clocks .timer)
     ∷ []
 
 unfoldable pub workingMachine : Board → Bool
-workingMachine b = all (machineTests b)
+workingMachine b = all (mostTests b) && controlsWork (b .clocks .timer)
 
 -- ---- the test holds where the facts do, and only there
 pub machine-of : (b : Board) → workingMachine b ≡ true → WorkingMachine b
 unfolding workingMachine
 machine-of b h =
-    let e = each (machineTests b) h in
+    let w = both (all (mostTests b)) (controlsWork (b .clocks .timer)) h in
+    let e = each (mostTests b) (w .0) in
+    let r = each (registerTests (b .registers)) (e .1 .1 .0) in
+    let p = each (pinTests (b .pins) (b .wiring)) (e .1 .1 .1 .1 .1 .1 .1 .1 .0) in
     record {
       converter = converter.working-of _ (e .0);
       requests = requests-of _ (e .1 .0);
-      registers = record { page = leb-true _ _ (e .1 .1 .0); dout = leb-true _ _ (e .1 .1 .1 .0); range = leb-true _ _ (e .1 .1 .1 .1 .0) };
-      outputs = outputs-of _ (e .1 .1 .1 .1 .1 .0);
+      registers = record { page = leb-true _ _ (r .0); dout = leb-true _ _ (r .1 .0); range = leb-true _ _ (r .1 .1 .0) };
+      outputs = outputs-of _ (e .1 .1 .1 .0);
       clocks =
           record {
-            timer = timer-of _ (e .1 .1 .1 .1 .1 .1 .0);
-            hundred = leb-true _ _ (e .1 .1 .1 .1 .1 .1 .1 .0);
-            thousand = leb-true _ _ (e .1 .1 .1 .1 .1 .1 .1 .1 .0);
+            timer = timer-of _ (rw (e .1 .1 .1 .1 .1 .1 .1 .1 .1 .0) (w .1));
+            hundred = leb-true _ _ (e .1 .1 .1 .1 .0);
+            thousand = leb-true _ _ (e .1 .1 .1 .1 .1 .0);
           };
-      ports = ports-of _ (e .1 .1 .1 .1 .1 .1 .1 .1 .1 .0);
-      calibration = calibration-of _ (e .1 .1 .1 .1 .1 .1 .1 .1 .1 .1 .0);
-      din = leb-true _ _ (e .1 .1 .1 .1 .1 .1 .1 .1 .1 .1 .1 .0);
-      latch = leb-true _ _ (e .1 .1 .1 .1 .1 .1 .1 .1 .1 .1 .1 .1 .0);
-      inputs = leb-true _ _ (e .1 .1 .1 .1 .1 .1 .1 .1 .1 .1 .1 .1 .1 .0);
-      zeroscale = leb-true _ _ (e .1 .1 .1 .1 .1 .1 .1 .1 .1 .1 .1 .1 .1 .1 .0);
+      ports = ports-of _ (e .1 .1 .1 .1 .1 .1 .0);
+      calibration = calibration-of _ (e .1 .1 .1 .1 .1 .1 .1 .0);
+      din = leb-true _ _ (p .0);
+      latch = leb-true _ _ (p .1 .0);
+      inputs = leb-true _ _ (p .1 .1 .0);
+      zeroscale = leb-true _ _ (p .1 .1 .1 .0);
     }
 
 pub machine-to : (b : Board) → WorkingMachine b → workingMachine b ≡ true
@@ -96,8 +103,11 @@ unfolding workingMachine
 machine-to b w =
     let c = converter.working-to _ (w .converter) in
     let r = requests-to _ (w .requests) in
+    let g = every (registerTests (b .registers)) (search le-leb) in
     let o = outputs-to _ (w .outputs) in
-    let t = timer-to _ (w .clocks .timer) in
     let p = ports-to _ (w .ports) in
     let k = calibration-to _ (w .calibration) in
-    every (machineTests b) (search (le-leb, c, r, o, t, p, k) depth 24)
+    let i = every (pinTests (b .pins) (b .wiring)) (search le-leb) in
+    let t = both (flagsWork (b .clocks .timer)) (controlsWork (b .clocks .timer)) (timer-to _ (w .clocks .timer)) in
+    let f = t .0 in
+    rw (every (mostTests b) (search (le-leb, c, r, g, o, p, k, i, f) depth 24)) (t .1)

@@ -1,8 +1,9 @@
 // The board's record: fresh, working, and as it shows on the pins. What ticks, pins and resets make of it stands in crates above; none of
 // them sees the sample memory or the EEPROM. Each contract is a definition of specs/.
 ghost use mathlib.Core.Path.{_≡_};
+ghost use Rattle.base.specs.Tests.{all};
 ghost use Rattle.machine.specs.Fresh.{freshRegisters, freshBoard, numberOf};
-ghost use Rattle.machine.specs.Working.{workingMachine};
+ghost use Rattle.machine.specs.Working.{registerTests, pinTests, mostTests, workingMachine};
 ghost use Rattle.machine.specs.View.{doutPins, singleEnded};
 use calibration::Calibration;
 use converter::channels::Converter;
@@ -113,25 +114,47 @@ pub fn fresh(jumpers: Jumpers, zero_scale: bool) -> Board
     }
 }
 
-// Whether the record, its sample memory apart, is a working board's.
-pub fn is_working(b: Board) -> bool
-    ensures { λ r. ⌜ r ≡ workingMachine b ⌝ }
+fn registers_work(r: Registers) -> bool
+    ensures { λ s. ⌜ s ≡ all (registerTests r) ⌝ }
+{
+    // the bits above 1 of the page and above 2 of DOUT
+    (base::join_bytes(r.page, r.dout) & 0xF8FC == 0) & (r.range <= 15)
+}
+
+fn pins_work(p: Pins, w: Wiring) -> bool
+    ensures { λ r. ⌜ r ≡ all (pinTests p w) ⌝ }
+{
+    let levels = base::join_bytes(p.din, p.latch);
+    let jumpers = base::join_bytes(w.inputs, w.zeroscale);
+    // the bits above 3 of DIN and above 1 of the inputs, and those that no flag has
+    base::join_words(levels, jumpers) & 0xFEFCFEF0 == 0
+}
+
+// Whether the record, its sample memory and the control bits of its counters apart, is a working board's.
+fn most_works(b: Board) -> bool
+    ensures { λ r. ⌜ r ≡ all (mostTests b) ⌝ }
 {
     converter::channels::is_working(b.converter)
         & requests::is_working(b.requests)
-        & (b.registers.page <= 3)
-        & (b.registers.dout <= 7)
-        & (b.registers.range <= 15)
+        & registers_work(b.registers)
         & outputs::works(b.outputs)
-        & timer::is_working(b.clocks.timer)
         & (b.clocks.hundred <= 99)
         & (b.clocks.thousand <= 999)
         & ports::works(b.ports)
         & calibration::works(b.calibration)
-        & (b.pins.din <= 15)
-        & (b.pins.latch <= 1)
-        & (b.wiring.inputs <= 3)
-        & (b.wiring.zeroscale <= 1)
+        & pins_work(b.pins, b.wiring)
+        & timer::flags_work(b.clocks.timer)
+}
+
+// Whether the record, its sample memory apart, is a working board's.
+pub fn is_working(b: Board) -> bool
+    ensures { λ r. ⌜ r ≡ workingMachine b ⌝ }
+{
+    if most_works(b) {
+        timer::controls_work(b.clocks.timer)
+    } else {
+        false
+    }
 }
 
 // DOUT2-0 as they stand on their pins (bits 2 to 0): OUT2 and OUT0 where OUT2EN and OUT0EN route them there.
@@ -148,11 +171,10 @@ pub fn dout_pins(b: Board) -> u8
     base::weight(two, 4) + base::weight(one, 2) + base::weight(zero, 1)
 }
 
-// S/D1 and S/D0 as they stand in the byte read at Base+8.
-pub fn single_ended(b: Board) -> u8
-    ensures { λ r. ⌜ r ≡ singleEnded b ⌝ }
+// S/D1 and S/D0 as they stand in the byte read at Base+8, by the jumpers.
+pub fn single_ended(inputs: u8) -> u8
+    ensures { λ r. ⌜ r ≡ singleEnded inputs ⌝ }
 {
-    let inputs = b.wiring.inputs;
     match inputs {
         0 => 96,
         1 => 0,

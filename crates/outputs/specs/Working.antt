@@ -1,5 +1,5 @@
 -- A working board's outputs (the specification, "What is delivered"): every code and channel is within its range, and DACBUSY
--- has at most 100 ticks left. The facts, and the row of tests that the code makes of them.
+-- has at most 100 ticks left. The facts, and the row of tests of them, of which the code makes several at once.
 use mathlib.Core.Bool.{Bool}
 use mathlib.Core.List.{List, [], _∷_}
 use Prim.Native.Nat.{ℕ, _≤_}

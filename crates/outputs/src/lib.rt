@@ -209,12 +209,11 @@ pub fn code_at(o: Outputs, n: u8) -> u16
 pub fn works(o: Outputs) -> bool
     ensures { λ r. ⌜ r ≡ outputsWork o ⌝ }
 {
-    (o.codes.out0 <= 4095)
-        & (o.codes.out1 <= 4095)
-        & (o.codes.out2 <= 4095)
-        & (o.codes.out3 <= 4095)
-        & (o.load.loaded <= 1)
-        & (o.load.channel <= 3)
-        & (o.load.code <= 4095)
-        & (o.busy <= 100)
+    let codes = base::join_longs(
+        base::join_words(o.codes.out0, o.codes.out1),
+        base::join_words(o.codes.out2, o.codes.out3),
+    );
+    let load = base::join_words(base::join_bytes(o.load.loaded, o.load.channel), o.load.code);
+    // the bits above 11 of each code, and those that no flag and no channel has
+    (codes & 0xF000F000F000F000 == 0) & (load & 0xF000FCFE == 0) & (o.busy <= 100)
 }

@@ -5,6 +5,7 @@ use Prim.Native.Nat.{ℕ}
 use native.Mathlib.Omega.{arith}
 use Rattle.base.specs.Choice.{if_then_else_}
 use Rattle.base.specs.Fields.{bit}
+use Rattle.base.specs.Laws.{not-true}
 use Rattle.base.specs.Tests.{each, every}
 use Rattle.ports.specs.declared.Port.{Port}
 use Rattle.ports.specs.declared.Port.the-variants.{PortA, PortB, PortC}
@@ -15,10 +16,6 @@ use Rattle.ports.specs.Ports.{controlWritten, latchWritten, portRead, pi
 use Rattle.ports.specs.Working.{WorkingControl, WorkingPorts, portsWork}
 
 -- ---- the tests are the facts
-not-true : (b : Bool) → not b ≡ true → b ≡ false
-not-true true h = cc
-not-true false h = refl
-
 true-not : (b : Bool) → b ≡ false → not b ≡ true
 true-not true h = cc
 true-not false h = refl

@@ -22,7 +22,7 @@ pub record WorkingRequests (r : Requests) : Type 0 where
   pub dint : r .flags .dint ≤ 1
   pub tint : r .flags .tint ≤ 1
 
--- the tests that the code makes
+-- the tests, of which the code makes several at once
 abbrev pub requestsTests : Requests → List Bool
 requestsTests r =
     leb (r .fifoen) 1

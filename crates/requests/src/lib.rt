@@ -151,12 +151,14 @@ pub fn fresh_requests() -> Requests
 pub fn is_working(r: Requests) -> bool
     ensures { λ s. ⌜ s ≡ requestsWork r ⌝ }
 {
-    (r.fifoen <= 1)
-        & (r.clksel <= 1)
-        & (r.adinte <= 1)
-        & (r.dinte <= 1)
-        & (r.tinte <= 1)
-        & (r.flags.adint <= 1)
-        & (r.flags.dint <= 1)
-        & (r.flags.tint <= 1)
+    let low = base::join_words(
+        base::join_bytes(r.fifoen, r.clksel),
+        base::join_bytes(r.adinte, r.dinte),
+    );
+    let high = base::join_words(
+        base::join_bytes(r.tinte, r.flags.adint),
+        base::join_bytes(r.flags.dint, r.flags.tint),
+    );
+    // the bits that no flag has
+    base::join_longs(low, high) & 0xFEFEFEFEFEFEFEFE == 0
 }

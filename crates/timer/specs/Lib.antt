@@ -2,3 +2,4 @@ pub mod Timer
 pub mod Working
 pub mod Kept
 pub mod Edges
+pub mod Still

@@ -57,7 +57,11 @@ clocked t s g = moved t s (pulsed (counterOf t s) (gateOf g s)) g
 unfoldable pub clockedIf : Timer → Select → Gates → Bool → Timer
 clockedIf t s g pulse = if pulse then clocked t s g else t
 
--- ---- the gates go from was to is
+-- ---- the gates go from was to is; whether one of them goes to another level
+abbrev pub gatesMove : Gates → Gates → Bool
+gatesMove was is =
+    was .gate0 && not (is .gate0) || not (was .gate0) && is .gate0 || was .gate12 && not (is .gate12) || not (was .gate12) && is .gate12
+
 unfoldable pub gatesMoved : Timer → Gates → Gates → Timer
 gatesMoved t was is = record {
   counter0 = gateMoved (t .counter0) (was .gate0) (is .gate0);

@@ -1,9 +1,12 @@
 -- A working board's timer: each counter is a working one. The specification, "What is delivered".
 use mathlib.Core.Path.{_≡_}
-use mathlib.Core.Bool.{Bool, true}
+use mathlib.Core.Bool.{Bool, true, _&&_}
 use mathlib.Core.List.{List, [], _∷_}
+use Rattle.base.specs.Laws.{both}
 use Rattle.base.specs.Tests.{all, each, every}
-use Rattle.counting.specs.Working.{working, Working, working-of, working-to}
+use Rattle.counting.specs.Working as counting
+use Rattle.counting.specs.Working.{controlFits, Working, working-of, working-to}
+use Rattle.counting.specs.declared.Counter.{Counter}
 use Rattle.timer.specs.declared.Timer.{Timer}
 
 pub record WorkingTimer (t : Timer) : Type 0 where
@@ -11,18 +14,39 @@ pub record WorkingTimer (t : Timer) : Type 0 where
   pub counter1 : Working (t .counter1)
   pub counter2 : Working (t .counter2)
 
--- the test that the code makes
-abbrev pub timerTests : Timer → List Bool
-timerTests t = working (t .counter0) ∷ working (t .counter1) ∷ working (t .counter2) ∷ []
+-- the tests: of the flags, then of the control bits
+abbrev pub flagTests : Timer → List Bool
+flagTests t = counting.flagsWork (t .counter0) ∷ counting.flagsWork (t .counter1) ∷ counting.flagsWork (t .counter2) ∷ []
+
+abbrev pub controlTests : Timer → List Bool
+controlTests t = controlFits (t .counter0) ∷ controlFits (t .counter1) ∷ controlFits (t .counter2) ∷ []
+
+abbrev pub flagsWork : Timer → Bool
+flagsWork t = all (flagTests t)
+
+abbrev pub controlsWork : Timer → Bool
+controlsWork t = all (controlTests t)
 
 abbrev pub workingTimer : Timer → Bool
-workingTimer t = all (timerTests t)
+workingTimer t = flagsWork t && controlsWork t
 
 -- ---- the test holds where the facts do, and only there
+each-of : (c : Counter) → counting.flagsWork c ≡ true → controlFits c ≡ true → Working c
+each-of c f k = working-of c (rw f k)
+
 pub timer-of : (t : Timer) → workingTimer t ≡ true → WorkingTimer t
 timer-of t h =
-    let e = each (timerTests t) h in
-    record { counter0 = working-of _ (e .0); counter1 = working-of _ (e .1 .0); counter2 = working-of _ (e .1 .1 .0) }
+    let w = both (flagsWork t) (controlsWork t) h in
+    let f = each (flagTests t) (w .0) in
+    let k = each (controlTests t) (w .1) in
+    record { counter0 = each-of _ (f .0) (k .0); counter1 = each-of _ (f .1 .0) (k .1 .0); counter2 = each-of _ (f .1 .1 .0) (k .1 .1 .0) }
+
+each-to : (c : Counter) → Working c → (counting.flagsWork c ≡ true) × (controlFits c ≡ true)
+each-to c w = both (counting.flagsWork c) (controlFits c) (working-to c w)
 
 pub timer-to : (t : Timer) → WorkingTimer t → workingTimer t ≡ true
-timer-to t w = every (timerTests t) (working-to _ (w .counter0), (working-to _ (w .counter1), (working-to _ (w .counter2), tt)))
+timer-to t w =
+    let a = each-to _ (w .counter0) in
+    let b = each-to _ (w .counter1) in
+    let c = each-to _ (w .counter2) in
+    rw (every (flagTests t) (a .0, (b .0, (c .0, tt)))) (every (controlTests t) (a .1, (b .1, (c .1, tt))))

@@ -2,8 +2,8 @@
 // value, total over any record, and its contract is a definition of specs/Timer.antt.
 use counting::Counter;
 ghost use mathlib.Core.Path.{_≡_};
-ghost use Rattle.timer.specs.Timer.{unprogrammedTimer, counterOf, gateOf, out, fell, put, cascaded, moved, clocked, clockedIf, gatesMoved};
-ghost use Rattle.timer.specs.Working.{workingTimer};
+ghost use Rattle.timer.specs.Timer.{unprogrammedTimer, counterOf, gateOf, out, fell, put, cascaded, moved, clocked, clockedIf, gatesMove, gatesMoved};
+ghost use Rattle.timer.specs.Working.{flagsWork, controlsWork, workingTimer};
 
 #[repr(C)]
 pub struct Timer {
@@ -130,6 +130,16 @@ pub fn clock_if(t: Timer, s: Select, g: Gates, pulse: bool) -> Timer
     if pulse { clock(t, s, g) } else { t }
 }
 
+// Whether a gate goes to another level.
+pub fn do_gates_move(was: Gates, is: Gates) -> bool
+    ensures { λ r. ⌜ r ≡ gatesMove was is ⌝ }
+{
+    (was.gate0 & !is.gate0)
+        | (!was.gate0 & is.gate0)
+        | (was.gate12 & !is.gate12)
+        | (!was.gate12 & is.gate12)
+}
+
 // The gates go from `was` to `is`.
 pub fn move_gates(t: Timer, was: Gates, is: Gates) -> Timer
     ensures { λ r. ⌜ r ≡ gatesMoved t was is ⌝ }
@@ -144,11 +154,40 @@ pub fn move_gates(t: Timer, was: Gates, is: Gates) -> Timer
     }
 }
 
+// Whether every flag of the three counters is 0 or 1.
+pub fn flags_work(t: Timer) -> bool
+    ensures { λ r. ⌜ r ≡ flagsWork t ⌝ }
+{
+    counting::flags_work(t.counter0)
+        & counting::flags_work(t.counter1)
+        & counting::flags_work(t.counter2)
+}
+
+// Whether the control bits of each counter suit its count register and OUT.
+pub fn controls_work(t: Timer) -> bool
+    ensures { λ r. ⌜ r ≡ controlsWork t ⌝ }
+{
+    let a = t.counter0;
+    let b = t.counter1;
+    let c = t.counter2;
+    if counting::control_works(a.control, a.count.register, a.count.out) {
+        if counting::control_works(b.control, b.count.register, b.count.out) {
+            counting::control_works(c.control, c.count.register, c.count.out)
+        } else {
+            false
+        }
+    } else {
+        false
+    }
+}
+
 // Whether the three counters are a working board's.
 pub fn is_working(t: Timer) -> bool
     ensures { λ r. ⌜ r ≡ workingTimer t ⌝ }
 {
-    counting::is_working(t.counter0)
-        & counting::is_working(t.counter1)
-        & counting::is_working(t.counter2)
+    if flags_work(t) {
+        controls_work(t)
+    } else {
+        false
+    }
 }

@@ -87,7 +87,12 @@ oldest-some f m w h = first (f .held) m (omega arith) (omega arith)
     first (suc n) [] p q = absurd (omega arith)
     first (suc n) (x ∷ xs) p q = refl
 
-pub tested : (f : Fifo) (m : List ℕ)
-    → (((eqb (length m) 512 && leb (f .held) 512) && leb (f .ovf) 1) && (not (on (f .ovf)) || eqb (f .held) 512)) && zeros (drop (f .held) m) ≡ isWorking f m
+-- whether the memory works, where it has its places and holds no more than those, and where not
+pub tested : (f : Fifo) (m : List ℕ) → eqb (length m) 512 && leb (f .held) 512 ≡ true
+    → (leb (f .ovf) 1 && (not (on (f .ovf)) || eqb (f .held) 512)) && zeros (drop (f .held) m) ≡ isWorking f m
 unfolding isWorking fifoTests
-tested f m = refl
+tested f m h = rw h
+
+pub unfit : (f : Fifo) (m : List ℕ) → eqb (length m) 512 && leb (f .held) 512 ≡ false → false ≡ isWorking f m
+unfolding isWorking fifoTests
+unfit f m h = rw h

@@ -11,9 +11,6 @@ is-working-spec =
     tie.spec
     (λ c κs. search needs)
     (λ c κs. search needs)
-    (λ c κs. search needs)
-    (λ c κs. search needs)
-    (λ c κs. search needs)
-    (λ c κs. search needs)
-    (λ c. simp (c .before .before .before .before .works3 .ensures, c .before .before .before .before .before .works2 .ensures, c .before .before .before .before .before .before .before .before .is-working3 .ensures, c .before .before .before .before .before .before .before .before .before .works .ensures, c .before .before .before .before .before .before .before .before .before .before .before .before .before .is-working2 .ensures, c .before .before .before .before .before .before .before .before .before .before .before .before .before .before .is-working .ensures))
+    (λ c. simp (c .controls-work .ensures, rw (c .before .before .most-works .ensures) at (c .before .if1 .taken)))
+    (λ c. simp (rw (c .before .most-works .ensures) at (c .if1 .left)))
     in tie.close met

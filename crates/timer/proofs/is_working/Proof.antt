@@ -9,6 +9,6 @@ is-working-spec =
     tie.spec
     (λ c κs. search needs)
     (λ c κs. search needs)
-    (λ c κs. search needs)
-    (λ c. simp (c .is-working3 .ensures, c .before .is-working2 .ensures, c .before .before .is-working .ensures))
+    (λ c. simp (c .controls-work .ensures, rw (c .before .before .flags-work .ensures) at (c .before .if1 .taken)))
+    (λ c. simp (rw (c .before .flags-work .ensures) at (c .if1 .left)))
     in tie.close met

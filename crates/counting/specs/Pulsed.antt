@@ -1,0 +1,49 @@
+-- What a CLK pulse leaves of any counter: its control bits, the count to load, and what the bus has written and read of it.
+use mathlib.Core.Path.{_≡_, refl}
+use mathlib.Core.Bool.{Bool}
+use lib.Dec.{eqb}
+use Rattle.base.specs.Flags.{on}
+use Rattle.base.specs.Laws.{by-choice}
+use Rattle.counting_modes.specs.Control.{setupOf}
+use Rattle.counting_modes.specs.declared.Mode.{Mode}
+use Rattle.counting_modes.specs.declared.Mode.the-variants.{TerminalCount, RateGenerator}
+use Rattle.counting_modes.specs.declared.Setup.{Setup}
+use Rattle.counting_modes.specs.declared.Setup.the-variants.{Unprogrammed, Programmed}
+use Rattle.counting_element.specs.Element.{pulseLoads, pulseCounts, pulseTaken, countedBy}
+use Rattle.counting_element.specs.declared.Count.{Count}
+use Rattle.counting.specs.Counter.{pulsedAs, pulsed}
+use Rattle.counting.specs.declared.Counter.{Counter}
+
+register-counted : (m : Mode) (k : Count) → countedBy m k .register ≡ k .register
+unfolding countedBy
+register-counted TerminalCount k = refl
+register-counted RateGenerator k = by-choice (λ (n : Count). n .register ≡ k .register) (eqb (k .element) 1) refl refl
+
+pub register-taken : (m : Mode) (gate trigger half : Bool) (k : Count) → pulseTaken m gate trigger half k .register ≡ k .register
+register-taken m gate trigger half k =
+    let P : Count → Type 0 = λ (n : Count). n .register ≡ k .register in
+    by-choice P (pulseLoads m trigger k) refl (by-choice P (pulseCounts m gate half k) (register-counted m k) refl)
+
+pub control-pulsed : (c : Counter) (gate : Bool) → pulsed c gate .control ≡ c .control
+unfolding pulsed
+control-pulsed c gate = go (setupOf (c .control))
+  where
+    go : (s : Setup) → pulsedAs s c gate .control ≡ c .control
+    go Unprogrammed = refl
+    go (Programmed f m) = refl
+
+pub register-pulsed : (c : Counter) (gate : Bool) → pulsed c gate .count .register ≡ c .count .register
+unfolding pulsed
+register-pulsed c gate = go (setupOf (c .control))
+  where
+    go : (s : Setup) → pulsedAs s c gate .count .register ≡ c .count .register
+    go Unprogrammed = refl
+    go (Programmed f m) = register-taken m gate (on (c .trigger)) (on (c .bus .halfwritten)) (c .count)
+
+pub bus-pulsed : (c : Counter) (gate : Bool) → pulsed c gate .bus ≡ c .bus
+unfolding pulsed
+bus-pulsed c gate = go (setupOf (c .control))
+  where
+    go : (s : Setup) → pulsedAs s c gate .bus ≡ c .bus
+    go Unprogrammed = refl
+    go (Programmed f m) = refl
