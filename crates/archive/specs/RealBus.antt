@@ -9,7 +9,6 @@ use lib.Dec.{eqb, leb}
 use lib.ListN.{length}
 use Rattle.base.specs.Flags.{on}
 use Rattle.base.specs.Choice.{if_then_else_}
-use Rattle.base.specs.Laws.{choice-le}
 use Rattle.base.specs.Weights.{weightOf, weight-le}
 use Rattle.fifo.specs.Samples.{oldestOf}
 use Rattle.fifo.specs.Queue.{queue, poppedFrom, WorkingFifo}
@@ -17,16 +16,16 @@ use Rattle.fifo.specs.Queue.Laws.{length-queue}
 use Rattle.fifo.specs.Flags.{flagBits}
 use Rattle.fifo.specs.declared.Fifo.{Fifo}
 use Rattle.machine.specs.View.{singleEnded}
+use Rattle.machine.specs.Fits.{single-fits}
 use Rattle.machine.specs.declared.Board.{Board}
 use Rattle.bus.specs.Place.{placeOf}
-use Rattle.bus_read.specs.Read.{byteAt, afterRead, fifoBits, adBits}
-use Rattle.bus.specs.Effects.{readEffect}
-use Rattle.bus_write.specs.Write.{writtenAt}
-use Rattle.bus.specs.Effects.{writeEffect}
-use Rattle.bus_refusal.specs.Refusals.{writeChecks, readChecks}
+use Rattle.bus.specs.Read.{byteAt, afterRead, fifoBits, adBits}
+use Rattle.bus.specs.Write.{writtenAt}
+use Rattle.bus.specs.Effects.{readEffect, writeEffect}
+use Rattle.bus.specs.Refusals.{writeChecks, readChecks}
 use Rattle.board_refusal.specs.Refusals.{eventChecks}
-use Rattle.board_act.specs.Act.{acted}
-use Rattle.board.specs.Step.{ran}
+use Rattle.board_step.specs.Act.{acted}
+use Rattle.board_step.specs.Step.{ran}
 use Rattle.board.specs.Held.{Held, answered, happened}
 use Rattle.board.specs.Begins.{begins}
 use Rattle.events.specs.declared.Answer.the-variants.{Done, Byte, Word}
@@ -35,6 +34,13 @@ use Rattle.turns.specs.Real.{Lent, real}
 use Rattle.archive_demand.specs.Bits.{sts-shown, ef-shown, hf-shown, ff-shown, ovf-shown, status-narrow}
 use Rattle.archive_demand.specs.Laws.{clocked, cleared, lowered, raised, leaving, Serves, Polls, Looks, Fetches}
 use Rattle.archive.specs.RealViews.{Works, holds, shown, Makes, serves}
+
+-- the bytes that are read at 8 and at 7
+abbrev polled : Board → ℕ
+polled b = adBits (b .converter) (b .wiring .inputs)
+
+abbrev looked : Board → ℕ
+looked b = fifoBits (b .fifo) (b .converter) (b .requests) (b .registers .page)
 
 module _ (h : Held) where
   -- ---- the writes of a start
@@ -74,11 +80,11 @@ module _ (h : Held) where
   goes false = record { answers = refl; leaves = refl; begins-none = refl }
 
   -- ---- the reads
-  poll : Makes h (ReadByte 8) (Byte (adBits (h .board))) (shown h)
+  poll : Makes h (ReadByte 8) (Byte (polled (h .board))) (shown h)
   unfolding answered happened eventChecks readChecks placeOf ran acted byteAt afterRead readEffect begins
   poll = record { answers = refl; leaves = refl; begins-none = refl }
 
-  look : Makes h (ReadByte 7) (Byte (fifoBits (h .board))) (shown h)
+  look : Makes h (ReadByte 7) (Byte (looked (h .board))) (shown h)
   unfolding answered happened eventChecks readChecks placeOf ran acted byteAt afterRead readEffect begins
   look = record { answers = refl; leaves = refl; begins-none = refl }
 
@@ -93,21 +99,15 @@ module _ (h : Held) where
   fetched c rest e z = rw (e, z)
 
 -- ---- the poll: STS
-inputs-fit : (b : Board) → singleEnded b ≤ 96
-inputs-fit b =
-    choice-le (eqb (b .wiring .inputs) 0) (omega arith)
-    (choice-le (eqb (b .wiring .inputs) 1) (omega arith)
-    (choice-le (eqb (b .wiring .inputs) 2) (omega arith) (choice-le (eqb (b .wiring .inputs) 3) (omega arith) (omega arith))))
-
 pub polls : (l : Lent) → Works l → Polls real l
 polls l w =
     record {
-      byte = adBits (l .board);
+      byte = polled (l .board);
       serves = serves l _ _ _ w (poll (holds l));
       narrow =
-          le-ltb 255 (adBits (l .board)) (omega (arith, weight-le (on (l .board .converter .converting)) 128, inputs-fit (l .board)));
+          le-ltb 255 (polled (l .board)) (omega (arith, weight-le (on (l .board .converter .converting)) 128, single-fits (l .board .wiring .inputs)));
       sts =
-          sts-shown (on (l .board .converter .converting)) (l .board .converter .selected % 32) (singleEnded (l .board)) (omega arith) (inputs-fit (l .board));
+          sts-shown (on (l .board .converter .converting)) (l .board .converter .selected % 32) (singleEnded (l .board .wiring .inputs)) (omega arith) (single-fits (l .board .wiring .inputs));
     }
 
 -- ---- the look: EF, HF, FF and OVF
@@ -137,9 +137,9 @@ looks l w =
     let H = leb 256 (f .held) in
     let F = eqb (f .held) 512 in
     record {
-      byte = fifoBits (l .board);
+      byte = looked (l .board);
       serves = serves l _ _ _ w (look (holds l));
-      narrow = le-ltb 255 (fifoBits (l .board)) (status-narrow E H F (on (f .ovf)) n m r);
+      narrow = le-ltb 255 (looked (l .board)) (status-narrow E H F (on (f .ovf)) n m r);
       ef = ef-shown E H F (on (f .ovf)) n m r ∙ empty-flag (f .held) ∙ ap (λ (k : ℕ). leb k 0) (sym e);
       hf = hf-shown E H F (on (f .ovf)) n m r ∙ ap (λ (k : ℕ). leb 256 k) (sym e);
       ff = ff-shown E H F (on (f .ovf)) n m r ∙ full-flag (f .held) (w .board .fifo .held) ∙ ap (λ (k : ℕ). leb 512 k) (sym e);

@@ -24,14 +24,13 @@ use Rattle.machine.specs.Kept.{converter-kept, fresh-working}
 use Rattle.machine.specs.declared.Board.{Board}
 use Rattle.machine.specs.declared.Jumpers.the-variants.{A}
 use Rattle.bus.specs.Place.{placeOf}
-use Rattle.bus_read.specs.Read.{byteAt, afterRead}
-use Rattle.bus.specs.Effects.{readEffect}
-use Rattle.bus_write.specs.Write.{writtenAt}
-use Rattle.bus.specs.Effects.{writeEffect}
-use Rattle.bus_refusal.specs.Refusals.{writeChecks, readChecks}
+use Rattle.bus.specs.Read.{byteAt, afterRead}
+use Rattle.bus.specs.Write.{writtenAt}
+use Rattle.bus.specs.Effects.{readEffect, writeEffect}
+use Rattle.bus.specs.Refusals.{writeChecks, readChecks}
 use Rattle.board_refusal.specs.Refusals.{eventChecks}
-use Rattle.board_act.specs.Act.{acted, eepromActed}
-use Rattle.board.specs.Step.{ran}
+use Rattle.board_step.specs.Act.{acted, eepromActed}
+use Rattle.board_step.specs.Step.{ran}
 use Rattle.board.specs.Held.{Held, answered, happened, step-held}
 use Rattle.board.specs.Begins.{begins, codeIn}
 use Rattle.collector_phases.specs.declared.Access.{Access}

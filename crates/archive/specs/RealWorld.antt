@@ -24,8 +24,8 @@ use Rattle.machine_pins.specs.Pins.{fellFrom, dinMoved, triggersStopped, latchS
 use Rattle.machine.specs.declared.Board.{Board}
 use Rattle.ports.specs.declared.Port.{Port}
 use Rattle.board_refusal.specs.Refusals.{eventChecks}
-use Rattle.board_act.specs.Act.{dinLevels, acted}
-use Rattle.board.specs.Step.{ran}
+use Rattle.board_step.specs.Act.{dinLevels, acted}
+use Rattle.board_step.specs.Step.{ran}
 use Rattle.board.specs.Held.{Held, ranHeld, happened}
 use Rattle.board.specs.Begins.{begins, tickBegins}
 use Rattle.board.specs.Conversions.{begun, din-triggered, tick-lost, counter0-same}

@@ -24,14 +24,14 @@ use Rattle.machine_tick.specs.Tick.{dividersTicked, counter0Ticked}
 use Rattle.machine_reset.specs.Reset.{isReset, boardReset, miscWritten}
 use Rattle.machine.specs.declared.Board.{Board}
 use Rattle.bus.specs.Place.{placeOf}
-use Rattle.bus_write.specs.Write.{writtenAt}
+use Rattle.bus.specs.Write.{writtenAt}
 use Rattle.bus.specs.declared.Place.{Place}
 use Rattle.bus.specs.declared.Place.the-variants.{Start, Digital, LowChannel, HighChannel, DacLeast, DacMost, Depth, FifoControl}
 use Rattle.bus.specs.declared.Place.the-variants.{Miscellaneous, Operation, CounterControl, Analog, Count, ControlWord, PortData, PortControl}
 use Rattle.bus.specs.declared.Place.the-variants.{Reserved, Auxiliary, CalData, CalAddress, CalCommand, CalKey, Outside}
-use Rattle.board_act.specs.Act.{dinLevels, acted}
+use Rattle.board_step.specs.Act.{dinLevels, acted}
 use Rattle.board_refusal.specs.Working.{WorkingBoard}
-use Rattle.board.specs.Step.{ran, ranFrom}
+use Rattle.board_step.specs.Step.{ran, ranFrom}
 use Rattle.board.specs.Begins.{timerBegins, writtenBegins, writeBegins, tickBegins, begins, beginsOn, ends, keeps, resets, abandons}
 use Rattle.base.specs.Laws.{never, both}
 use Rattle.board.specs.Conversions.{begun, over, same, counter0-same, out2Trigger, clocked1, dinTrigger}

@@ -10,9 +10,9 @@ use Rattle.fifo.specs.Samples.{oldestOf}
 use Rattle.fifo.specs.Queue.{queue}
 use Rattle.machine.specs.declared.Board.{Board}
 use Rattle.bus.specs.Place.{placeOf}
-use Rattle.bus_read.specs.Read.{byteAt}
-use Rattle.board_act.specs.Act.{acted}
-use Rattle.board.specs.Step.{ran, ranFrom, number, refusedBy, stepOf}
+use Rattle.bus.specs.Read.{byteAt}
+use Rattle.board_step.specs.Act.{acted}
+use Rattle.board_step.specs.Step.{ran, ranFrom, number, refusedBy, stepOf}
 use Rattle.events.specs.Answers.{refusalNumber, valueRead}
 use Rattle.events.specs.declared.Event.{Event}
 use Rattle.events.specs.declared.Event.the-variants.{WriteByte, ReadByte, ReadWord, ConversionEnd, DinPins, LatchLevel, PortPins, Tick, TransferEnd}

@@ -21,7 +21,7 @@ use Rattle.machine_pins.specs.Pins.{fellFrom, dinMoved, triggersStopped}
 use Rattle.machine_reset.specs.Reset.{isReset}
 use Rattle.machine.specs.declared.Board.{Board}
 use Rattle.bus.specs.Place.{placeOf}
-use Rattle.board_act.specs.Act.{dinLevels}
+use Rattle.board_step.specs.Act.{dinLevels}
 use Rattle.bus.specs.declared.Place.{Place}
 use Rattle.bus.specs.declared.Place.the-variants.{Start, Digital, LowChannel, HighChannel, DacLeast, DacMost, Depth, FifoControl}
 use Rattle.bus.specs.declared.Place.the-variants.{Miscellaneous, Operation, CounterControl, Analog, Count, ControlWord, PortData, PortControl}
@@ -71,7 +71,7 @@ dinBegins b din = clockStarts (b .converter) (on (b .requests .clksel)) false (f
 abbrev pub tickBegins : Board → Bool
 tickBegins b =
     let c = counter0Ticked (dividersTicked b) in
-    timerBegins c (clockedIf (c .clocks .timer) Counter1 (gates c) (clock1 (c .registers) (c .clocks)))
+    timerBegins c (clockedIf (c .clocks .timer) Counter1 (gates c) (clock1 (c .registers .counting) (c .clocks .hundred)))
 
 unfoldable pub begins : Board → Event → Bool
 begins b (WriteByte offset value) = writeBegins b (placeOf (b .registers .page) offset) value

@@ -23,13 +23,13 @@ use Rattle.machine_pins.specs.Pins.{fellFrom, dinMoved, din0Clocked, triggersSt
 use Rattle.machine_reset.specs.Reset.{isReset, boardReset, requestsCleared, pageSet, miscWritten}
 use Rattle.machine.specs.declared.Board.{Board}
 use Rattle.bus.specs.Place.{placeOf}
-use Rattle.bus_read.specs.Read.{afterRead}
-use Rattle.bus_write.specs.Write.{writtenAt}
+use Rattle.bus.specs.Read.{afterRead}
+use Rattle.bus.specs.Write.{writtenAt}
 use Rattle.bus.specs.declared.Place.{Place}
 use Rattle.bus.specs.declared.Place.the-variants.{Start, Digital, LowChannel, HighChannel, DacLeast, DacMost, Depth, FifoControl}
 use Rattle.bus.specs.declared.Place.the-variants.{Miscellaneous, Operation, CounterControl, Analog, Count, ControlWord, PortData, PortControl}
 use Rattle.bus.specs.declared.Place.the-variants.{Reserved, Auxiliary, CalData, CalAddress, CalCommand, CalKey, Outside}
-use Rattle.board_act.specs.Act.{dinLevels, acted}
+use Rattle.board_step.specs.Act.{dinLevels, acted}
 use Rattle.board.specs.Resets.{placeResets, place-resets}
 use Rattle.board.specs.Begins.{timerBegins, writtenBegins, writeBegins, dinBegins, tickBegins, begins, ends, resets}
 use Rattle.events.specs.declared.Event.{Event}
@@ -110,7 +110,7 @@ din-triggered b n =
 
 -- the timer after the tick of counter 1, and what it makes of the converter
 abbrev pub clocked1 : Board → Timer
-clocked1 c = clockedIf (c .clocks .timer) Counter1 (gates c) (clock1 (c .registers) (c .clocks))
+clocked1 c = clockedIf (c .clocks .timer) Counter1 (gates c) (clock1 (c .registers .counting) (c .clocks .hundred))
 
 tick-begun : (b : Board) → tickBegins b ≡ true → ticked b .converter ≡ started (b .converter)
 unfolding ticked outputsTicked counter1Ticked turned

@@ -13,8 +13,8 @@ use Rattle.fifo.specs.Queue.{queue, layout}
 use Rattle.machine.specs.declared.Board.{Board}
 use Rattle.board_refusal.specs.Working.{workingBoard, WorkingBoard, board-to}
 use Rattle.board_refusal.specs.Refusals.{eventChecks, checks}
-use Rattle.board.specs.Passed.{Passed}
-use Rattle.board.specs.Step.{Ran, ran, ranFrom, number, refusedBy, stepOf, memoryAfter, eepromAfter}
+use Rattle.board_step.specs.Passed.{Passed}
+use Rattle.board_step.specs.Step.{Ran, ran, ranFrom, number, refusedBy, stepOf, memoryAfter, eepromAfter}
 use Rattle.board.specs.Kept.{ran-holds}
 use Rattle.events.specs.declared.Answer.{Answer}
 use Rattle.events.specs.declared.Answer.the-variants.{Refused}

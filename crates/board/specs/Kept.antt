@@ -1,7 +1,7 @@
 -- Every event keeps a working board working, and a fresh board with fresh stores is one. The specification, "What is delivered"; condition 1
 -- of acceptance: what is refused leaves board record, sample memory and EEPROM as they were.
 use Prim.Native.Nat.{ℕ, _≤_}
-use mathlib.Core.Path.{_≡_, refl, sym, _∙_, subst}
+use mathlib.Core.Path.{_≡_, refl, sym, _∙_}
 use mathlib.Core.Bool.{Bool, true, false}
 use mathlib.Core.List.{List, []}
 use native.Mathlib.Omega.{arith}
@@ -12,9 +12,8 @@ use Rattle.base.specs.Choice.{if_then_else_}
 use Rattle.base.specs.Checks.{refusal}
 use Rattle.base.specs.Laws.{by-test}
 use Rattle.fifo.specs.Samples.{oldestOf}
-use Rattle.fifo.specs.Queue.{queue, layout, emptyFifo, pushedTo, WorkingFifo}
-use Rattle.fifo.specs.Queue.Laws.{queue-push, push-works, queue-pop, pop-works, queue-clear, clear-works}
-use Rattle.fifo.specs.declared.Fifo.{Fifo}
+use Rattle.fifo.specs.Queue.{queue, layout, emptyFifo, pushedTo}
+use Rattle.fifo.specs.Queue.Laws.{clear-works}
 use Rattle.converter.specs.Working.{ended-works}
 use Rattle.calibration.specs.Laws as calibration
 use Rattle.calibration_end.specs.Laws as ends
@@ -34,16 +33,15 @@ use Rattle.machine_pins.specs.Kept.{din-works, latch-works, port-works}
 use Rattle.machine.specs.declared.Board.{Board}
 use Rattle.machine.specs.declared.Jumpers.{Jumpers}
 use Rattle.bus.specs.Place.{placeOf}
-use Rattle.bus_write.specs.Kept.{written-works}
-use Rattle.bus_read.specs.Kept.{read-works}
-use Rattle.bus.specs.declared.Effect.{Effect}
-use Rattle.bus.specs.declared.Effect.the-variants.{Keep, Take, Store, Empty}
+use Rattle.bus.specs.Kept.{written-works}
+use Rattle.bus.specs.Kept.{read-works}
 use Rattle.board_refusal.specs.Working.{WorkingBoard}
 use Rattle.board_refusal.specs.Refusals.{eventChecks, checks}
-use Rattle.board.specs.Passed.{Passed, passed, din-levels-le}
-use Rattle.board_act.specs.Act.{dinLevels, acted, eepromActed}
-use Rattle.board.specs.Step.{samplesAfter, fifoAfter, ran, ranFrom, number, refusedBy, stepOf, memoryAfter, eepromAfter}
-use Rattle.board.specs.declared.Outcome.{Outcome}
+use Rattle.board_step.specs.Sampled.{effect-works, effect-holds}
+use Rattle.board_step.specs.Passed.{Passed, passed, din-levels-le}
+use Rattle.board_step.specs.Act.{dinLevels, acted, eepromActed}
+use Rattle.board_step.specs.Step.{ran, ranFrom, number, refusedBy, stepOf, memoryAfter, eepromAfter}
+use Rattle.board_step.specs.declared.Outcome.{Outcome}
 use Rattle.events.specs.declared.Event.{Event}
 use Rattle.events.specs.declared.Event.the-variants.{WriteByte, ReadByte, ReadWord, ConversionEnd, DinPins, LatchLevel, PortPins, Tick, TransferEnd}
 
@@ -62,21 +60,6 @@ acted-works b o e (LatchLevel level) w h = latch-works b (nonzero level) w
 acted-works b o e (PortPins q v) w h = port-works b q v w
 acted-works b o e Tick w h = ticked-works b w
 acted-works b o e TransferEnd w h = calibration-kept b w _ (ends.ended-works (b .calibration) e (w .calibration))
-
--- ---- the sample memory
-module _ (f : Fifo) (m : List ℕ) (w : WorkingFifo f m) where
-  effect-works : (x : Effect) → WorkingFifo (fifoAfter x f) (layout (fifoAfter x f) (samplesAfter x (queue f m)))
-  effect-works Keep = subst (λ (l : List ℕ). WorkingFifo f l) (w .laid) w
-  effect-works Take = pop-works f m w
-  effect-works (Store s) = push-works f m s w
-  effect-works Empty = clear-works
-
-  -- what the memory then holds is what the definition says
-  effect-holds : (x : Effect) → queue (fifoAfter x f) (layout (fifoAfter x f) (samplesAfter x (queue f m))) ≡ samplesAfter x (queue f m)
-  effect-holds Keep = rw (sym (w .laid))
-  effect-holds Take = queue-pop f m w
-  effect-holds (Store s) = queue-push f m s w
-  effect-holds Empty = queue-clear
 
 -- ---- an event that is not refused
 pub ran-works : (b : Board) (m e : List ℕ) (ev : Event) → Passed b m e ev

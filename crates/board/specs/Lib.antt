@@ -1,5 +1,3 @@
-pub mod Step
-pub mod Passed
 pub mod Kept
 pub mod Held
 pub mod Begins

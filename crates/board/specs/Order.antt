@@ -12,13 +12,13 @@ use Rattle.base.specs.Checks.{Check, _refuses_, refusal}
 use Rattle.base.specs.Laws.{choice-le, both}
 use Rattle.machine.specs.declared.Board.{Board}
 use Rattle.bus.specs.Place.{placeOf}
-use Rattle.bus_refusal.specs.Refusals.{writeChecks, readChecks}
+use Rattle.bus.specs.Refusals.{writeChecks, readChecks}
 use Rattle.bus.specs.declared.Place.{Place}
 use Rattle.bus.specs.declared.Place.the-variants.{Start, Digital, LowChannel, HighChannel, DacLeast, DacMost, Depth, FifoControl}
 use Rattle.bus.specs.declared.Place.the-variants.{Miscellaneous, Operation, CounterControl, Analog, Count, ControlWord, PortData, PortControl}
 use Rattle.bus.specs.declared.Place.the-variants.{Reserved, Auxiliary, CalData, CalAddress, CalCommand, CalKey, Outside}
 use Rattle.board_refusal.specs.Working.{workingBoard}
-use Rattle.board.specs.Step.{number}
+use Rattle.board_step.specs.Step.{number}
 use Rattle.board_refusal.specs.Refusals.{eventChecks, checks}
 use Rattle.events.specs.declared.Event.{Event}
 use Rattle.events.specs.declared.Event.the-variants.{WriteByte, ReadByte, ReadWord, ConversionEnd, DinPins, LatchLevel, PortPins, Tick, TransferEnd}

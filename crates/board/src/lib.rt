@@ -1,26 +1,26 @@
 // The board: one record by value, two lent memories, one event at a time. `step` answers every event, from whatever record, memories and
-// numbers come in.
+// numbers come in; each kind of event has a step of its own.
 ghost use mathlib.Core.Path.{_≡_};
-ghost use lib.ListN.{length};
-ghost use Rattle.fifo.specs.Queue.{queue, WorkingFifo, Leaves};
 ghost use Rattle.machine.specs.Fresh.{freshBoard};
-ghost use Rattle.board_refusal.specs.Working.{WorkingBoard};
-ghost use Rattle.board.specs.Step.{fifoAfter, samplesAfter, Did, ran, refusedBy, stepOf, memoryAfter, eepromAfter};
+ghost use Rattle.board_step.specs.Step.{stepOf, memoryAfter, eepromAfter};
+pub use board_reads::read_byte;
+pub use board_reads::read_word;
 pub use board_refusal::is_working;
+pub use board_signals::conversion_end;
+pub use board_signals::din_pins;
+pub use board_signals::latch_level;
+pub use board_signals::port_pins;
+pub use board_signals::tick;
+pub use board_signals::transfer_end;
+pub use board_step::Outcome;
 pub use board_stores::fresh_stores;
-use bus::Effect;
+pub use board_writes::write_byte;
 pub use events::Answer;
 pub use events::Din;
 pub use events::Event;
 pub use events::Port;
-use fifo::Fifo;
 pub use machine::Board;
 pub use machine::Jumpers;
-
-pub struct Outcome {
-    pub board: Board,
-    pub answer: Answer,
-}
 
 // A fresh board.
 pub fn fresh(jumpers: Jumpers, zero_scale: bool) -> Board
@@ -29,55 +29,27 @@ pub fn fresh(jumpers: Jumpers, zero_scale: bool) -> Board
     machine::fresh(jumpers, zero_scale)
 }
 
-// The sample memory after an effect.
-fn apply(f: Fifo, memory: &mut [u16], effect: Effect) -> Fifo
-    requires { ⌜ WorkingFifo f (now memory) ⌝ }
-    ensures { λ r. ⌜ Leaves (fifoAfter effect f) (samplesAfter effect (queue f (now (memory .entry)))) r (now (memory .exit)) ⌝ }
-{
-    match effect {
-        Effect::Keep => f,
-        Effect::Take => fifo::pop(f, memory),
-        Effect::Store(sample) => fifo::push(f, memory, sample),
-        Effect::Empty => fifo::clear(memory),
-    }
-}
-
-// An event that is not refused.
-fn run(board: Board, memory: &mut [u16], eeprom: &mut [u8], event: Event) -> Outcome
-    requires { ⌜ WorkingBoard board (now memory) × (length (now eeprom) ≡ 128) ⌝ }
-    ensures { λ r. ⌜ Did (ran board (queue (board .fifo) (now (memory .entry))) (now (eeprom .entry)) event) r (now (memory .exit)) (now (eeprom .exit)) ⌝ }
-{
-    let oldest = fifo::oldest(board.fifo, memory);
-    let acted = board_act::act(board, oldest, eeprom, event);
-    let answer = acted.answer;
-    let effect = acted.effect;
-    let f = apply(board.fifo, memory, effect);
-    let mut next = acted.board;
-    next.fifo = f;
-    Outcome {
-        board: next,
-        answer,
-    }
-}
-
-fn refuse(board: Board, number: u8) -> Outcome
-    ensures { λ r. ⌜ r ≡ refusedBy board number ⌝ }
-{
-    Outcome {
-        board,
-        answer: Answer::Refused(number),
-    }
-}
-
 // One event. The answer, the record and both memories are the specification's for every input; what is refused changes nothing.
 pub fn step(board: Board, memory: &mut [u16], eeprom: &mut [u8], event: Event) -> Outcome
     ensures { λ r. ⌜ r ≡ stepOf board (now (memory .entry)) (now (eeprom .entry)) event ⌝ }
     ensures { λ r. ⌜ now (memory .exit) ≡ memoryAfter board (now (memory .entry)) (now (eeprom .entry)) event ⌝ }
     ensures { λ r. ⌜ now (eeprom .exit) ≡ eepromAfter board (now (memory .entry)) (now (eeprom .entry)) event ⌝ }
 {
-    let number = board_refusal::refusal_of(board, memory, eeprom, event);
-    if number != 0 {
-        return refuse(board, number);
+    match event {
+        Event::WriteByte { offset, value } => board_writes::write_byte(
+            board,
+            memory,
+            eeprom,
+            offset,
+            value,
+        ),
+        Event::ReadByte { offset } => board_reads::read_byte(board, memory, eeprom, offset),
+        Event::ReadWord { offset } => board_reads::read_word(board, memory, eeprom, offset),
+        Event::ConversionEnd { code } => board_signals::conversion_end(board, memory, eeprom, code),
+        Event::DinPins(d) => board_signals::din_pins(board, memory, eeprom, d.lines),
+        Event::LatchLevel { level } => board_signals::latch_level(board, memory, eeprom, level),
+        Event::PortPins(port, pins) => board_signals::port_pins(board, memory, eeprom, port, pins),
+        Event::Tick => board_signals::tick(board, memory, eeprom),
+        Event::TransferEnd => board_signals::transfer_end(board, memory, eeprom),
     }
-    run(board, memory, eeprom, event)
 }

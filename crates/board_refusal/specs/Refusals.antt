@@ -9,7 +9,7 @@ use Rattle.base.specs.Checks.{Check, _refuses_}
 use Rattle.calibration.specs.Registers.{nothingRuns}
 use Rattle.machine.specs.declared.Board.{Board}
 use Rattle.bus.specs.Place.{placeOf}
-use Rattle.bus_refusal.specs.Refusals.{writeChecks, readChecks}
+use Rattle.bus.specs.Refusals.{writeChecks, readChecks}
 use Rattle.board_stores.specs.Stores.{wrongLengths}
 use Rattle.board_refusal.specs.Working.{workingBoard}
 use Rattle.events.specs.declared.Event.{Event}

@@ -3,12 +3,20 @@ use Prim.Native.Nat.{ℕ}
 use Rattle.base.specs.Choice.{if_then_else_}
 use Rattle.requests.specs.Registers.{FIFORST}
 use Rattle.machine_reset.specs.Reset.{isReset}
-use Rattle.bus.specs.declared.Effect.{Effect}
-use Rattle.bus.specs.declared.Effect.the-variants.{Keep, Take, Empty}
 use Rattle.bus.specs.declared.Place.{Place}
 use Rattle.bus.specs.declared.Place.the-variants.{Start, Digital, LowChannel, HighChannel, DacLeast, DacMost, Depth, FifoControl}
 use Rattle.bus.specs.declared.Place.the-variants.{Miscellaneous, Operation, CounterControl, Analog, Count, ControlWord, PortData, PortControl}
 use Rattle.bus.specs.declared.Place.the-variants.{Reserved, Auxiliary, CalData, CalAddress, CalCommand, CalKey, Outside}
+
+pub data Effect : Type 0 where
+  -- they stay
+  Keep : Effect
+  -- the oldest leaves
+  Take : Effect
+  -- a conversion's sample comes to them
+  Store : ℕ → Effect
+  -- none is left
+  Empty : Effect
 
 -- "1 read: its high byte, and the sample leaves"; "0 read: low byte of the oldest sample, no change"
 unfoldable pub readEffect : Place → Effect

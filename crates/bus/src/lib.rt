@@ -1,7 +1,7 @@
-// The register map (manual, chapters 6 to 8): what an offset names on the current page, and what an access there does to the samples held.
-// What a read gives, what a byte written makes of the record and which accesses are refused stand in crates above.
-pub mod map;
-pub mod samples;
+// The register map (manual, chapters 6 to 8): what an offset names on the current page. What an access there is refused by, shows and does is defined in
+// specs/, a table for each, with a row for each place; the functions that do it are the board's.
+pub mod bytes; // the bytes that are read of several parts
+pub mod map; // what an offset names
 
 use ports::Port;
 use timer::Select;
@@ -31,12 +31,4 @@ pub enum Place {
     CalCommand,
     CalKey,
     Outside,
-}
-
-// What an access does to the samples held.
-pub enum Effect {
-    Keep,
-    Take,
-    Store(u16),
-    Empty,
 }

@@ -5,9 +5,9 @@ use mathlib.Core.List.{List}
 use Prim.Native.Nat.{ℕ, _≤_}
 use lib.ListN.{length}
 use Rattle.machine.specs.declared.Board.{Board}
-use Rattle.board.specs.Step.{stepOf, memoryAfter, eepromAfter}
+use Rattle.board_step.specs.Step.{stepOf, memoryAfter, eepromAfter}
 use Rattle.events.specs.declared.Event.{Event}
-use Rattle.board.specs.declared.Outcome.{Outcome}
+use Rattle.board_step.specs.declared.Outcome.{Outcome}
 use Rattle.words.specs.Ends.{commandRead}
 use Rattle.text.specs.Text.{Wrote}
 use Rattle.reading.specs.declared.Reading.the-variants.{Blank}

@@ -3,7 +3,7 @@ use Prim.Native.Nat.{ℕ}
 use mathlib.Core.Path.{_≡_}
 use mathlib.Core.List.{List}
 use Rattle.machine.specs.declared.Board.{Board}
-use Rattle.board.specs.Step.{stepOf, memoryAfter, eepromAfter}
+use Rattle.board_step.specs.Step.{stepOf, memoryAfter, eepromAfter}
 use Rattle.events.specs.declared.Event.{Event}
 use Rattle.reading.specs.declared.Reading.the-variants.{Blank}
 use Rattle.text.specs.Text.{Wrote}

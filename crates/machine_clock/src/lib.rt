@@ -5,7 +5,7 @@ use timer::Gates;
 use timer::Timer;
 use timer_bus::Written;
 ghost use mathlib.Core.Path.{_≡_};
-ghost use Rattle.machine_clock.specs.Clock.{gatesAt, gates, withTimer, turned, turnedBy, countingWritten};
+ghost use Rattle.machine_clock.specs.Clock.{gatesAt, gates, withTimer, turned, turnedBy};
 
 // The gates at a byte of Base+10 and levels of DIN3-0.
 pub fn gates_at(counting: u8, din: u8) -> Gates
@@ -61,15 +61,4 @@ pub fn turn_by(b: Board, w: Written) -> Board
         Written::Accepted(t) => turn(b, t),
         Written::Refused(_) => b,
     }
-}
-
-// A write of Base+10: the gates follow it, which is no clock edge and no trigger.
-pub fn write_counting(b: Board, v: u8) -> Board
-    ensures { λ r. ⌜ r ≡ countingWritten b v ⌝ }
-{
-    let t = timer::move_gates(b.clocks.timer, gates_of(b), gates_at(v, b.pins.din));
-    let mut c = b;
-    c.registers.counting = v;
-    c.clocks = put_timer(b.clocks, t);
-    c
 }

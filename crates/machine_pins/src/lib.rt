@@ -1,9 +1,8 @@
-// The DIN pins, the Latch pin and the port pins: specs/Pins.antt.
+// The DIN pins: specs/Pins.antt, where the Latch pin and the port pins are defined too.
 use machine::Board;
-use ports::Port;
 use timer::Select;
 ghost use mathlib.Core.Path.{_≡_};
-ghost use Rattle.machine_pins.specs.Pins.{fellFrom, dinMoved, din0Clocked, triggersStopped, din3Triggered, dinSet, latchSet, portSet};
+ghost use Rattle.machine_pins.specs.Pins.{fellFrom, dinMoved, din0Clocked, triggersStopped, din3Triggered, dinSet};
 
 fn has_fallen_0(was: u8, is: u8) -> bool
     ensures { λ r. ⌜ r ≡ fellFrom was is 1 ⌝ }
@@ -76,25 +75,4 @@ pub fn set_din(b: Board, din: u8) -> Board
         clock_din_0(move_din(b, din), has_fallen_0(was, din)),
         has_fallen_3(was, din),
     )
-}
-
-// The Latch pin takes a level.
-pub fn set_latch(b: Board, high: bool) -> Board
-    ensures { λ r. ⌜ r ≡ latchSet b high ⌝ }
-{
-    let rose = (b.pins.latch != 1) & high;
-    let mut c = b;
-    c.requests = requests::ask_latch(b.requests, rose);
-    let level = high as u8;
-    c.pins.latch = level;
-    c
-}
-
-// The pins of a port take new levels.
-pub fn set_port(b: Board, q: Port, v: u8) -> Board
-    ensures { λ r. ⌜ r ≡ portSet b q v ⌝ }
-{
-    let mut c = b;
-    c.ports = ports::set_pins(b.ports, q, v);
-    c
 }

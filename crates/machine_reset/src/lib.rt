@@ -1,8 +1,8 @@
-// Base+8: resets, INTRST, page: specs/Reset.antt.
+// Resets by Base+8: specs/Reset.antt, where INTRST and the page are defined too.
 use machine::Board;
 use outputs::Outputs;
 ghost use mathlib.Core.Path.{_≡_};
-ghost use Rattle.machine_reset.specs.Reset.{outputsReset, boardReset, pageSet, requestsCleared, isReset, miscWritten};
+ghost use Rattle.machine_reset.specs.Reset.{outputsReset, boardReset, isReset};
 
 fn reset_outputs(o: Outputs, analog: bool, zeroscale: bool) -> Outputs
     ensures { λ r. ⌜ r ≡ outputsReset o analog zeroscale ⌝ }
@@ -34,40 +34,9 @@ pub fn reset_board(b: Board, analog: bool) -> Board
     c
 }
 
-fn set_page(b: Board, v: u8) -> Board
-    ensures { λ r. ⌜ r ≡ pageSet b v ⌝ }
-{
-    let page = v % 4;
-    let mut c = b;
-    c.registers.page = page;
-    c.calibration = calibration::forget_key(b.calibration);
-    c
-}
-
-fn clear_requests(b: Board) -> Board
-    ensures { λ r. ⌜ r ≡ requestsCleared b ⌝ }
-{
-    let mut c = b;
-    c.requests = requests::clear(b.requests);
-    c
-}
-
 // Whether a byte for Base+8 is a reset.
 pub fn is_reset(v: u8) -> bool
     ensures { λ r. ⌜ r ≡ isReset v ⌝ }
 {
     (v / 32 % 2 == 1) | (v / 16 % 2 == 1)
-}
-
-// A write of Base+8.
-pub fn write_misc(b: Board, v: u8) -> Board
-    ensures { λ r. ⌜ r ≡ miscWritten b v ⌝ }
-{
-    if is_reset(v) {
-        reset_board(b, v / 32 % 2 == 1)
-    } else if v / 8 % 2 == 1 {
-        clear_requests(b)
-    } else {
-        set_page(b, v)
-    }
 }

@@ -30,11 +30,11 @@ dividers-work b w =
 
 counter0-works : (b : Board) → WorkingMachine b → WorkingMachine (counter0Ticked b)
 unfolding counter0Ticked
-counter0-works b w = turned-works b _ w (clocked-working _ Counter0 (gates b) (clock0 (b .registers) (b .clocks)) (w .clocks .timer))
+counter0-works b w = turned-works b _ w (clocked-working _ Counter0 (gates b) (clock0 (b .registers .counting) (b .clocks .thousand)) (w .clocks .timer))
 
 counter1-works : (b : Board) → WorkingMachine b → WorkingMachine (counter1Ticked b)
 unfolding counter1Ticked
-counter1-works b w = turned-works b _ w (clocked-working _ Counter1 (gates b) (clock1 (b .registers) (b .clocks)) (w .clocks .timer))
+counter1-works b w = turned-works b _ w (clocked-working _ Counter1 (gates b) (clock1 (b .registers .counting) (b .clocks .hundred)) (w .clocks .timer))
 
 outputs-work : (b : Board) → WorkingMachine b → WorkingMachine (outputsTicked b)
 unfolding outputsTicked

@@ -21,12 +21,12 @@ use Rattle.machine_tick.specs.Tick.{dividersTicked, counter0Ticked, counter1Tic
 use Rattle.machine_reset.specs.Reset.{boardReset, requestsCleared, pageSet, miscWritten}
 use Rattle.bus.specs.Place.{placeOf}
 use Rattle.bus.specs.Effects.{readEffect, writeEffect}
-use Rattle.bus_read.specs.Read.{byteAt, afterRead}
-use Rattle.bus_write.specs.Write.{writtenAt}
-use Rattle.bus_refusal.specs.Refusals.{writeChecks, readChecks}
-use Rattle.board_act.specs.Act.{acted, eepromActed}
+use Rattle.bus.specs.Read.{byteAt, afterRead}
+use Rattle.bus.specs.Write.{writtenAt}
+use Rattle.bus.specs.Refusals.{writeChecks, readChecks}
+use Rattle.board_step.specs.Act.{acted, eepromActed}
 use Rattle.board_refusal.specs.Refusals.{eventChecks}
-use Rattle.board.specs.Step.{ran}
+use Rattle.board_step.specs.Step.{ran}
 use Rattle.board.specs.Held.{answered, happened}
 use Rattle.events.specs.declared.Answer.the-variants.{Done, Byte, Word}
 use Rattle.events.specs.declared.Event.{Event}

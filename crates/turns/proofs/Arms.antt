@@ -3,9 +3,9 @@ use Prim.Native.Nat.{ℕ}
 use mathlib.Core.Path.{_≡_, refl, sym, ap, _∙_}
 use mathlib.Core.List.{List}
 use Rattle.machine.specs.declared.Board.{Board}
-use Rattle.board.specs.Step.{stepOf, memoryAfter, eepromAfter}
+use Rattle.board_step.specs.Step.{stepOf, memoryAfter, eepromAfter}
 use Rattle.events.specs.declared.Event.{Event}
-use Rattle.board.specs.declared.Outcome.{Outcome}
+use Rattle.board_step.specs.declared.Outcome.{Outcome}
 use Rattle.collector_phases.specs.declared.Collector.{Collector}
 use Rattle.collector_phases.specs.Accesses.{accessOf}
 use Rattle.turns.specs.declared.Asked.{Asked}

@@ -9,7 +9,7 @@ use Rattle.base.specs.Flags.{on}
 use Rattle.base.specs.Choice.{if_then_else_}
 use Rattle.fifo.specs.Queue.{queue}
 use Rattle.machine.specs.declared.Board.{Board}
-use Rattle.board.specs.Step.{number, stepOf, memoryAfter, eepromAfter}
+use Rattle.board_step.specs.Step.{number, stepOf, memoryAfter, eepromAfter}
 use Rattle.board.specs.Begins as conversions
 use Rattle.events.specs.declared.Event.{Event}
 use Rattle.events.specs.declared.Event.the-variants.{WriteByte, ReadByte, ReadWord, ConversionEnd, DinPins, LatchLevel, PortPins, Tick, TransferEnd}

@@ -1,0 +1,28 @@
+-- `board_signals::port_pins` meets its contract, by a law for each way out. Assumes nothing. Written by tools/ways.py.
+use borrow.Author.Needs.{needs}
+use Rattle.board_signals.proofs.Arms as arms
+use Rattle.board_step.specs.Ways as ways
+use Rattle.board_signals.proofs.port_pins.Statement.{statement}
+use Rattle.board_signals.proofs.port_pins.Tie as tie
+
+returns : tie.Need-returns
+returns c = ways.wrong _ _ _ _ (c .if1 .taken)
+
+returns-2 : tie.Need-returns-2
+returns-2 c = ways.broken _ _ _ _ (c .before .before .before .if1 .left) (c .before .is-working .ensures) (c .if2 .taken)
+
+returns-3 : tie.Need-returns-3
+returns-3 c = arms.port _ _ _ (c .before .before .before .before .before .before .before .args .port) (c .before .before .before .before .before .before .before .args .pins) (ways.opened (c .before .before .before .before .if1 .left) (c .before .before .is-working .ensures) (c .before .if2 .left)) (c .set-pins .ensures)
+
+pub port-pins-spec : {M : Type 1} → statement M
+port-pins-spec =
+    let met =
+    tie.spec
+    (λ c κs. search needs)
+    (λ c κs. search needs)
+    returns
+    (λ c. search needs)
+    returns-2
+    (λ c. search needs)
+    returns-3
+    in tie.close met

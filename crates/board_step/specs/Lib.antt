@@ -1,0 +1,6 @@
+pub mod Acted
+pub mod Act
+pub mod Step
+pub mod Sampled
+pub mod Passed
+pub mod Ways

@@ -1,0 +1,39 @@
+-- The sample memory after an event: what an effect leaves is a working board's, and holds the samples that the definition says; which reads leave it.
+use mathlib.Core.Path.{_≡_, refl, sym, subst}
+use mathlib.Core.List.{List}
+use Prim.Native.Nat.{ℕ}
+use Rattle.fifo.specs.Queue.{queue, layout, WorkingFifo}
+use Rattle.fifo.specs.Queue.Laws.{queue-push, push-works, queue-pop, pop-works, queue-clear, clear-works}
+use Rattle.fifo.specs.declared.Fifo.{Fifo}
+use Rattle.machine.specs.declared.Board.{Board}
+use Rattle.bus.specs.Place.{placeOf}
+use Rattle.bus.specs.Effects.{Effect, Keep, Take, Store, Empty, readEffect}
+use Rattle.bus.specs.Read.{afterRead}
+use Rattle.board_step.specs.Act.{acted}
+use Rattle.board_step.specs.Step.{samplesAfter, fifoAfter, ran}
+use Rattle.events.specs.declared.Event.the-variants.{ReadByte}
+
+module _ (f : Fifo) (m : List ℕ) (w : WorkingFifo f m) where
+  pub effect-works : (x : Effect) → WorkingFifo (fifoAfter x f) (layout (fifoAfter x f) (samplesAfter x (queue f m)))
+  effect-works Keep = subst (λ (l : List ℕ). WorkingFifo f l) (w .laid) w
+  effect-works Take = pop-works f m w
+  effect-works (Store s) = push-works f m s w
+  effect-works Empty = clear-works
+
+  -- what the memory then holds is what the definition says
+  pub effect-holds : (x : Effect) → queue (fifoAfter x f) (layout (fifoAfter x f) (samplesAfter x (queue f m))) ≡ samplesAfter x (queue f m)
+  effect-holds Keep = rw (sym (w .laid))
+  effect-holds Take = queue-pop f m w
+  effect-holds (Store s) = queue-push f m s w
+  effect-holds Empty = queue-clear
+
+-- ---- reads that change nothing: "0 read: low byte of the oldest sample, no change". Other models were seen to clear OVF by reading status, or by reading
+-- offset 0, and to take the offset 0 read as the one that removes a sample
+module _ (b : Board) (samples eeprom : List ℕ) where
+  pub low-read-keeps : (ran b samples eeprom (ReadByte 0) .samples ≡ samples) × (ran b samples eeprom (ReadByte 0) .board ≡ b)
+  unfolding ran acted placeOf readEffect afterRead
+  low-read-keeps = (refl, refl)
+
+  pub status-read-keeps : (ran b samples eeprom (ReadByte 7) .samples ≡ samples) × (ran b samples eeprom (ReadByte 7) .board ≡ b)
+  unfolding ran acted placeOf readEffect afterRead
+  status-read-keeps = (refl, refl)
