@@ -1,14 +1,16 @@
 #!/usr/bin/env python3
 """Writes the proofs of the thin functions over a lent board, in crates/lent and crates/cowriestep: for each, proofs/NAME/Proof.antt, and for each of
 the two crates proofs/Lending.antt, which they share. Run it in the repository's root after a change to these functions or to the record. It reads the
-functions, their parameters and events, and where the answer lies behind the record, from the crates' sources; the events' cases and what a step does are
-not in it.
+functions, their parameters, callees and events, and where the answer lies behind the record, from the crates' sources; the events' cases and what a step
+does are not in it.
 
-All these functions have one shape. NAME(board: &mut Board, memory: &mut [u16], eeprom: &mut [u8], parameters..) makes an event of its parameters, calls
-CALLEE(*board, memory, eeprom, event) and stores what comes back. Its locals, in order:
+All these functions have one shape. NAME(board: &mut Board, memory: &mut [u16], eeprom: &mut [u8], parameters..) calls CALLEE(*board, memory, eeprom, ..),
+which makes the step by value, and stores what comes back. It passes its parameters on, after a variant of an enum or not. Those of cowriestep test the
+lengths of the memories first and answer refusal 2 at once. A function's locals, in order:
 
-    0 the answer   1 board   2 memory   3 eeprom   the parameters   what CALLEE returns   the record's copy
-    memory's pointer and slice   eeprom's pointer and slice   a struct or enum inside the event   the event
+    0 the answer   1 board   2 memory   3 eeprom   the parameters   what CALLEE returns
+    where lengths are tested: memory's length   whether it is wrong   eeprom's length   whether it is wrong   whether one is
+    the record's copy   memory's pointer and slice   eeprom's pointer and slice   the variant
 
 The walk follows the statements and cites Lending.antt from the call on. Numbers in it are places in the list of what is owned at that point. The texts
 are walk/proof.txt and walk/lending.txt; here is what is filled in.
@@ -20,11 +22,11 @@ from walk import source, terms
 from walk.terms import chained, listed, loaded, local, paired
 from walk.text import filled
 
-# A crate of thin functions: what they call, what that returns, which field of it is the answer, and what it promises of it.
-Family = namedtuple('Family', 'crate callee_crate callee outcome answer promise')
+# A crate of thin functions: what their callees return, which field of it is the answer, and what they promise of it.
+Family = namedtuple('Family', 'crate outcome answer promise')
 FAMILIES = [
-    Family('lent', 'board', 'step', 'Outcome', 'answer', 'stepOf (x .now) (m .now) (e .now) ev'),
-    Family('cowriestep', 'numbers', 'stepped', 'Numbered', 'number', 'numberedOf (stepOf (x .now) (m .now) (e .now) ev)'),
+    Family('lent', 'Outcome', 'answer', 'stepOf (x .now) (m .now) (e .now) ev'),
+    Family('cowriestep', 'Numbered', 'number', 'numberedOf (stepOf (x .now) (m .now) (e .now) ev)'),
 ]
 
 
@@ -36,34 +38,41 @@ def of_family(family, types):
     value = f'aval (r .{family.answer})' if enum else 'aval r'
     return dict(
         {name: 'Rattle·' + types.declared(name).crate for name in ('Board', 'Event', 'Answer')},
-        crate=family.crate, promise=family.promise,
-        callee=f'{family.callee_crate}·{family.callee}', callee_called=f'{family.callee_crate}::{family.callee}',
-        callee_path=f'Rattle.{family.callee_crate}.proofs.{family.callee}',
-        outcome=family.outcome, outcome_crate='Rattle·' + types.declared(family.outcome).crate,
+        crate=family.crate, promise=family.promise, outcome=family.outcome, outcome_crate='Rattle·' + types.declared(family.outcome).crate,
         answer=family.answer, answer_at=at, answer_is_an_enum=enum, answer_row=answer.row, answer_makes=answer.makes, answer_value=f'({value})',
-        answer_type='N′.mir' if enum else 'numTy', answer_is=f'Is {answer.row} (r .{family.answer}) ({value} ∷ [])',
+        answer_type='N′.mir' if enum else 'numTy', answer_local='N′.mir' if enum else 'S.numTy', answer_is=f'Is {answer.row} (r .{family.answer}) ({value} ∷ [])',
         answer_typed=f'EL.lawful {answer.both} 𝓤 H A W tt .typed (r .{family.answer}) _ is .0' if enum else '(tt, record { fits = is .1 })')
 
 
-def of_event(function, types):
-    """What a proof says of the event, and of what is built inside it."""
-    names = [p for p, _ in function.parameters]
-    holds = [terms.of(t, types).holds(p) for p, t in function.parameters]
-    said = dict(event_is_built=function.event is not None, event_variant=function.event, inner='', inner_is_an_enum=False)
-    said['event_comes'] = 'The event is built of the parameters.' if function.event else 'The event is the last parameter.'
-    fields, parts = names, holds
-    if function.inner:
-        kind, variant = function.inner
-        built = terms.Declared(kind, variant is not None)
-        inner = variant or '(record { ' + '; '.join(f'{p} = {p}' for p in names) + ' })'
-        said.update(
-            inner=inner, inner_is_an_enum=variant is not None, inner_type=kind, inner_crate='Rattle·' + types.declared(kind).crate,
-            inner_laws=built.laws, inner_tag=built.tag, inner_value=built.value(inner), inner_holds='tt' if variant else paired(holds))
-        fields, parts = ([inner] + names, ['made-inner'] + holds) if variant else ([inner], ['made-inner'])
-    said['event'] = names[0] if not function.event else f'({" ".join([function.event] + fields)})' if fields else function.event
-    said['event_holds'] = paired(parts)
-    said['args'] = f'𝓤 H A W κ κm κe q qm qe x m e {said["event"]}'
+def of_call(function, types):
+    """What a proof says of the callee, of the event, and of what is passed beside what is lent: a variant, and the parameters."""
+    crate, path, built = function.callee[0], function.callee[1:], function.built
+    passed = [(p, terms.of(t, types)) for p, t in function.parameters]
+    said = dict(built='', built_type='', built_value='')
+    if built:
+        kind = terms.Declared(built.type, True)
+        passed = [(built.name, kind)] + passed
+        said.update(built=built.name, built_type=built.type, built_value=kind.value(built.name))
+    own = 'ftrue'
+    for _ in passed:
+        own = f'(fsep ftrue {own})'
+    said.update(
+        callee='·'.join(function.callee).replace('_', '-'), callee_called='::'.join(function.callee), callee_path='.'.join([f'Rattle.{crate}', 'proofs'] + path),
+        event=function.event, args=f'𝓤 H A W κ κm κe q qm qe x m e {function.event}', declared_used=uses(function, types),
+        passed_rows=''.join(t.row + ' ∷ ' for _, t in passed), passed_arguments=paired(['x .now', 'm', 'e'] + [p for p, _ in passed]),
+        passed_apart=paired(['S.bval (x .now) ∷ []', 'sm ∷ []', 'se ∷ []'] + [t.value(p) + ' ∷ []' for p, t in passed]),
+        own_bound=chained(['Unit {0}'] * len(passed)), own_said=own)
     return said
+
+
+def uses(function, types):
+    """The lines that bring in the declared types of a function, and the variants that its contract names."""
+    kinds = [t for _, t in function.parameters if t not in source.SCALARS] + ([function.built.type] if function.built else [])
+    lines = [f'use Rattle.{types.declared(v.type).crate}.specs.declared.{v.type}.the-variants.{{{v.name}}}' for v in function.named]
+    for kind in kinds:
+        crate = 'Rattle·' + types.declared(kind).crate
+        lines += [f'use {crate}.specs.declared.{kind}.{{{kind}}}', f'use {crate}.proofs.{kind} as {kind}ᴿ', f'use {crate}.proofs.{kind}.Laws as {kind}ᴸ']
+    return '\n'.join(lines)
 
 
 def of_parameters(function, types):
@@ -91,30 +100,44 @@ def of_parameters(function, types):
         given=''.join(f'(a{way}) ' for way in after) + ''.join(t.told(f'are{way}') for (_, t), way in zip(own, after)))
 
 
+def types_of_locals(function, types):
+    """The types of the locals, by name, in the words that Lending.antt has of them."""
+    pointer = {name: f'(tyRef {{}} mut (tyInt {width}))' for name, width in (('memory', 'w16'), ('eeprom', 'w8'))}
+    said = dict(board='S.refTy', outcome='S.outTy', copied='Boardᴸ.mir', built=f'{function.built.type}ᴸ.mir' if function.built else '')
+    said.update(memory_length='(tyInt w64)', eeprom_length='(tyInt w64)', memory_wrong='tyBool', eeprom_wrong='tyBool', wrong='tyBool')
+    for place, (name, of) in enumerate(pointer.items()):
+        said.update({name: f'(sliceTy {of.format(f"(named {place + 1})")})', name + '_pointer': of.format('erased'), name + '_slice': f'(sliceTy {of.format("erased")})'})
+    said.update({p: terms.of(t, types).type for p, t in function.parameters})
+    return said
+
+
 def of_locals(function, types):
     """The places of the locals, in the lists of what is owned along the walk. What is owned of a local is what lies in it, and that it can be freed."""
-    names = ['answer', 'board', 'memory', 'eeprom'] + [p for p, _ in function.parameters] + ['outcome', 'copied', 'memory_pointer', 'memory_slice', 'eeprom_pointer', 'eeprom_slice']
-    names += (['inner'] if function.inner else []) + (['event'] if function.event else [])
-    own, count = [4 + j for j in range(len(function.parameters))], len(names)
-    at = {name: i for i, name in enumerate(names)}
+    begun = ['answer', 'board', 'memory', 'eeprom'] + [p for p, _ in function.parameters]
+    tests = ['memory_length', 'memory_wrong', 'eeprom_length', 'eeprom_wrong', 'wrong'] if function.tested else []
+    names = begun + ['outcome'] + tests + ['copied', 'memory_pointer', 'memory_slice', 'eeprom_pointer', 'eeprom_slice'] + (['built'] if function.built else [])
+    count, at = len(names), {name: i for i, name in enumerate(names)}
     owned = [y for i in reversed(range(count)) for y in (('in', i), ('free', i))]
     front = [('in', at['outcome']), ('in', at['answer']), ('in', at['board'])]
     rest = [y for y in owned if y not in front]
     asked = ['asked', 'cell', 'obor', 'obs', 'auth'] + front + rest                   # once the call's arguments are made
     final = ['obs', 'bor', 'tok', 'toks', 'memory', 'eeprom'] + front + rest          # once it has returned
-    place = lambda i: 7 + owned.index(('in', i))                                      # once the borrow is open
-    event = [at['inner']] if function.inner else []
-    event += own if not function.inner or function.inner.variant else []
-    event_at = at['event'] if function.event else own[0]
+    refused = ['obs', 'bor', 'tok', 'toks', 'memory', 'eeprom'] + owned               # where the lengths are wrong
+    arguments = (['built'] if function.built else []) + [p for p, _ in function.parameters]
+    call = [at[name] for name in ['copied', 'memory_slice', 'eeprom_slice'] + arguments]
     passed = ['(tt, tt)', '(tt, (tt, (record { fits = rm .0 }, tt)))', '(tt, (tt, (record { fits = re .0 }, tt)))'] + [terms.of(t, types).typed(p) for p, t in function.parameters]
-    said = {'at_' + name: place(i) for i, name in enumerate(names)}
+    to_end = lambda items: listed([items.index((s, i)) for i in range(count) for s in ('in', 'free')])
+    said = {'at_' + name: 7 + owned.index(('in', i)) for name, i in at.items()}            # once the borrow is open
+    said.update({'first_' + name: 5 + owned.index(('in', i)) for name, i in at.items()})   # before that
+    kinds = types_of_locals(function, types)
     said.update(
-        allocated=' '.join(f'alloc1 ! (λ {local(i)}.' for i in range(count)), freed='S.gone ! $ ' * count, closed=')' * (count + 2), last_local=count - 1,
+        locals=' ∷ '.join(f'local {kinds[name]} valueLocal' for name in names[1:]) + ' ∷ []',
+        allocated=' '.join(f'alloc1 ! (λ {local(i)}.' for i in range(count)), freed='S.gone ! $ ' * count, closed=')' * (count + 2 + function.tested), last_local=count - 1,
+        refusal_freed=''.join('S.gone ! $ ' if name in begun + tests else 'free1 ! $ ' for name in names), to_refusal=to_end(refused),
         passed=' $ '.join(f'pass1 ! (init ! {2 * (count - 2 - j)} refl {t})' for j, t in enumerate(passed)), entry_at=2 * count + 1, tokens_at=2 * count + 3,
-        inner_loads='(and-then ! (lit ! tt) (no-more !))' if function.inner and function.inner.variant else loaded([place(i) for i in own]),
-        event_loads=loaded([place(i) for i in event]), outcome_local=local(at['outcome']),
-        call_loads=loaded([asked.index(('in', i)) for i in (at['copied'], at['memory_slice'], at['eeprom_slice'], event_at)]),
-        to_call=listed([5, 0, 1, 2, 3, 4] + [6 + owned.index(y) for y in front]), to_end=listed([final.index((s, i)) for i in range(count) for s in ('in', 'free')]))
+        outcome_local=local(at['outcome']), outcome_at=at['outcome'],
+        call_at=(12 if function.tested else 6) + (1 if function.built else 0), call_operands=listed([f'copy (place {i} [])' for i in call]), call_loads=loaded([asked.index(('in', i)) for i in call]),
+        to_call=listed([5, 0, 1, 2, 3, 4] + [6 + owned.index(y) for y in front]), to_end=to_end(final))
     return said
 
 
@@ -127,11 +150,12 @@ def write(path, text):
 def main():
     types = source.Types()
     for family in FAMILIES:
-        proofs, said = f'crates/{family.crate}/proofs', of_family(family, types)
+        proofs, functions = f'crates/{family.crate}/proofs', source.thin_functions(family.crate)
+        said = dict(of_family(family, types), tested=any(function.tested for function in functions))
         write(f'{proofs}/Lending.antt', filled('lending.txt', said))
-        for function in source.thin_functions(family.crate, said['callee_called']):
-            own = dict(name=function.name, kebab=function.name.replace('_', '-'))
-            for of in (of_event, of_parameters, of_locals):
+        for function in functions:
+            own = dict(name=function.name, kebab=function.name.replace('_', '-'), tested=function.tested)
+            for of in (of_call, of_parameters, of_locals):
                 own.update(of(function, types))
             write(f'{proofs}/{function.name}/Proof.antt', filled('proof.txt', {**said, **own}))
 

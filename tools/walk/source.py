@@ -10,10 +10,11 @@ from collections import namedtuple
 
 # The variants of a type are its lists of fields, (name, type), by name; a struct has one, which has the struct's name.
 Declared = namedtuple('Declared', 'crate is_enum variants')
-# What is built inside an event: a struct of the function's parameters, or a variant of an enum (else None).
-Inner = namedtuple('Inner', 'type variant')
-# The event is a variant and what is built inside it, if anything; both None where the event is itself a parameter.
-Thin = namedtuple('Thin', 'name parameters event inner')
+# A variant of an enum whose variants hold nothing.
+Variant = namedtuple('Variant', 'type name')
+# A function over a lent board: what it calls (a path), a variant that it passes on before its own parameters (or None), the event of its contract (a term)
+# with the variants that this names, and whether it tests the lengths first.
+Thin = namedtuple('Thin', 'name parameters callee built event named tested')
 
 SCALARS = {'bool': 1, 'u8': 1, 'i8': 1, 'u16': 2, 'i16': 2, 'u32': 4, 'i32': 4, 'f32': 4, 'u64': 8, 'i64': 8, 'f64': 8, 'usize': 8, 'isize': 8}
 LENT = [('board', '&mut Board'), ('memory', '&mut [u16]'), ('eeprom', '&mut [u8]')]
@@ -97,29 +98,32 @@ def length(array):
     return int(array[1:-1].split(';')[1])
 
 
-def thin_functions(crate, callee):
-    """The functions of a crate that call `callee(*board, memory, eeprom, EVENT)` over a lent board, in the order written."""
+CONTRACT = r'Stepped \w+ \(now \(board \.entry\)\) \(now \(memory \.entry\)\) \(now \(eeprom \.entry\)\) (.*) r \(now \(board \.exit\)\)'
+CALL = r'let out = ([\w:]+)\(\s*\*board,\s*memory,\s*eeprom,?\s*(.*?),?\s*\);'
+TEST = 'if (memory.len() != 512) | (eeprom.len() != 128) { return 0x62000000; }'
+
+
+def thin_functions(crate):
+    """The functions of a crate that call `CALLEE(*board, memory, eeprom, ..)` over a lent board, in the order written."""
     found = []
     for text in texts(crate):
         for name, parameters, body in re.findall(r'^pub (?:extern "C" )?fn (\w+)\((.*?)\) -> \w+\n(.*?)^\}', text, re.M | re.S):
-            call = re.search(callee + r'\(\s*\*board,\s*memory,\s*eeprom,\s*(.*?),?\s*\);', body, re.S)
+            call = re.search(CALL, body, re.S)
             if call:
-                found.append(thin(name, fields_in(parameters), ' '.join(call.group(1).split())))
+                found.append(thin(name, fields_in(parameters), call.group(1), call.group(2), body))
     if not found:
-        raise SystemExit(f'tools/walks.py: no function of {crate} calls {callee} over a lent board')
+        raise SystemExit(f'tools/walks.py: no function of {crate} calls another over a lent board')
     return found
 
 
-def thin(name, parameters, event):
-    """The function whose event is written so."""
+def thin(name, parameters, callee, passed, body):
+    """The function that passes these arguments on beside what is lent."""
     lent, own = parameters[:3], parameters[3:]
-    variant, inside = re.fullmatch(r'(?:Event::)?(\w+)(.*)', event).groups()
-    if not event.startswith('Event::'):
-        made, variant, inner = [variant], None, None
-    else:
-        built = re.search(r'(\w+)(?:::(\w+)| \{)', inside)
-        inner = Inner(*built.groups()) if built else None
-        made = [word for word in re.findall(r'\w+', inside) if not inner or word not in inner]
-    if lent != LENT or made != [p for p, _ in own]:
+    event = re.search(CONTRACT, body)
+    built = re.match(r'(\w+)::(\w+)(?:, |$)', passed)
+    rest = passed[built.end():] if built else passed
+    if lent != LENT or not event or [word for word in rest.split(', ') if word] != [p for p, _ in own]:
         raise SystemExit(f'tools/walks.py: {name} is not of the shape that the walks have')
-    return Thin(name, own, variant, inner)
+    named = [Variant(*of) for of in re.findall(r'(\w+)\.(\w+)', event.group(1))]
+    term = re.sub(r'\w+\.(\w+)', r'\1', event.group(1))
+    return Thin(name, own, callee.split('::'), Variant(*built.groups()) if built else None, term, named, TEST in ' '.join(body.split()))

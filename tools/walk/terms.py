@@ -9,6 +9,7 @@ class Number:
     def __init__(self, row):
         self.row, self.bits = row, row[1:]
         self.width = 'w' + self.bits
+        self.type = f'(tyInt {self.width})'
         self.makes = f'({self.rule}-makes 𝓤 H A W {self.width})'
         self.vals, self.tells = f'{self.rule}-vals {self.width}', f'{self.rule}-tells {self.width}'
 
@@ -32,7 +33,7 @@ class Signed(Number):
 class Flag:
     """A bool, of which nothing need be known."""
 
-    row, meaning, makes, vals, tells = 'Builtin.bool', 'Bool', '(bool-makes 𝓤 H A W)', 'bool-vals', 'bool-tells'
+    row, type, meaning, makes, vals, tells = 'Builtin.bool', 'tyBool', 'Bool', '(bool-makes 𝓤 H A W)', 'bool-vals', 'bool-tells'
 
     def value(self, p): return f'vbool {p}'
     def typed(self, p): return '(tt, tt)'
@@ -47,6 +48,7 @@ class Declared:
     def __init__(self, name, is_enum, the=None, these=None):
         self.meaning, self.laws, self.tag = name, 'EL' if is_enum else 'LL', 'tt ' if is_enum else ''
         the, these = the or name + 'ᴿ', these or name + 'ᴸ'
+        self.type = f'{these}.mir'
         self.row, self.both = f'{the}.the-row', f'{the}.the-type {these}.the-laws'
         self.makes = f'({self.laws}.makes {the}.the-type {these}.the-plain 𝓤 H A)'
         self.vals, self.tells = f'(λ y. {self.value("y")} ∷ [])', f'{self.laws}.tells {self.both}'

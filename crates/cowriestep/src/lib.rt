@@ -1,9 +1,9 @@
 // What C and Rust hosts link (include/cowriestep.h): the lent board, fresh boards, the collector and the formulas, on plain numbers and records of
-// numbers. Here are the events; each calls the step with the record by value and stores what comes back.
+// numbers. Here are the events: each answers memories of the wrong lengths at once (refusal 2), or calls the function of its kind with the record by
+// value and stores what comes back.
 ghost use Rattle.lent.specs.Stepped.{Stepped};
 ghost use Rattle.numbers.specs.Packed.{answerNumber};
 use board::Board;
-use board::Din;
 use board::Event;
 use board::Port;
 
@@ -21,7 +21,10 @@ pub extern "C" fn dmm32_write_byte(
 ) -> u32
     ensures { λ r. ⌜ Stepped answerNumber (now (board .entry)) (now (memory .entry)) (now (eeprom .entry)) (Event.WriteByte offset value) r (now (board .exit)) (now (memory .exit)) (now (eeprom .exit)) ⌝ }
 {
-    let out = numbers::stepped(*board, memory, eeprom, Event::WriteByte { offset, value });
+    if (memory.len() != 512) | (eeprom.len() != 128) {
+        return 0x62000000;
+    }
+    let out = numbers::stepping::write_byte(*board, memory, eeprom, offset, value);
     *board = out.board;
     out.number
 }
@@ -36,7 +39,10 @@ pub extern "C" fn dmm32_read_byte(
 ) -> u32
     ensures { λ r. ⌜ Stepped answerNumber (now (board .entry)) (now (memory .entry)) (now (eeprom .entry)) (Event.ReadByte offset) r (now (board .exit)) (now (memory .exit)) (now (eeprom .exit)) ⌝ }
 {
-    let out = numbers::stepped(*board, memory, eeprom, Event::ReadByte { offset });
+    if (memory.len() != 512) | (eeprom.len() != 128) {
+        return 0x62000000;
+    }
+    let out = numbers::stepping::read_byte(*board, memory, eeprom, offset);
     *board = out.board;
     out.number
 }
@@ -51,7 +57,10 @@ pub extern "C" fn dmm32_read_word(
 ) -> u32
     ensures { λ r. ⌜ Stepped answerNumber (now (board .entry)) (now (memory .entry)) (now (eeprom .entry)) (Event.ReadWord offset) r (now (board .exit)) (now (memory .exit)) (now (eeprom .exit)) ⌝ }
 {
-    let out = numbers::stepped(*board, memory, eeprom, Event::ReadWord { offset });
+    if (memory.len() != 512) | (eeprom.len() != 128) {
+        return 0x62000000;
+    }
+    let out = numbers::stepping::read_word(*board, memory, eeprom, offset);
     *board = out.board;
     out.number
 }
@@ -66,7 +75,10 @@ pub extern "C" fn dmm32_conversion_end(
 ) -> u32
     ensures { λ r. ⌜ Stepped answerNumber (now (board .entry)) (now (memory .entry)) (now (eeprom .entry)) (Event.ConversionEnd code) r (now (board .exit)) (now (memory .exit)) (now (eeprom .exit)) ⌝ }
 {
-    let out = numbers::stepped(*board, memory, eeprom, Event::ConversionEnd { code });
+    if (memory.len() != 512) | (eeprom.len() != 128) {
+        return 0x62000000;
+    }
+    let out = numbers::stepping::conversion_end(*board, memory, eeprom, code);
     *board = out.board;
     out.number
 }
@@ -81,7 +93,10 @@ pub extern "C" fn dmm32_din(
 ) -> u32
     ensures { λ r. ⌜ Stepped answerNumber (now (board .entry)) (now (memory .entry)) (now (eeprom .entry)) (Event.DinPins (record { lines = lines })) r (now (board .exit)) (now (memory .exit)) (now (eeprom .exit)) ⌝ }
 {
-    let out = numbers::stepped(*board, memory, eeprom, Event::DinPins(Din { lines }));
+    if (memory.len() != 512) | (eeprom.len() != 128) {
+        return 0x62000000;
+    }
+    let out = numbers::stepping::din_pins(*board, memory, eeprom, lines);
     *board = out.board;
     out.number
 }
@@ -96,7 +111,10 @@ pub extern "C" fn dmm32_latch(
 ) -> u32
     ensures { λ r. ⌜ Stepped answerNumber (now (board .entry)) (now (memory .entry)) (now (eeprom .entry)) (Event.LatchLevel level) r (now (board .exit)) (now (memory .exit)) (now (eeprom .exit)) ⌝ }
 {
-    let out = numbers::stepped(*board, memory, eeprom, Event::LatchLevel { level });
+    if (memory.len() != 512) | (eeprom.len() != 128) {
+        return 0x62000000;
+    }
+    let out = numbers::stepping::latch_level(*board, memory, eeprom, level);
     *board = out.board;
     out.number
 }
@@ -111,7 +129,10 @@ pub extern "C" fn dmm32_port_a_pins(
 ) -> u32
     ensures { λ r. ⌜ Stepped answerNumber (now (board .entry)) (now (memory .entry)) (now (eeprom .entry)) (Event.PortPins Port.PortA pins) r (now (board .exit)) (now (memory .exit)) (now (eeprom .exit)) ⌝ }
 {
-    let out = numbers::stepped(*board, memory, eeprom, Event::PortPins(Port::PortA, pins));
+    if (memory.len() != 512) | (eeprom.len() != 128) {
+        return 0x62000000;
+    }
+    let out = numbers::stepping::port_pins(*board, memory, eeprom, Port::PortA, pins);
     *board = out.board;
     out.number
 }
@@ -126,7 +147,10 @@ pub extern "C" fn dmm32_port_b_pins(
 ) -> u32
     ensures { λ r. ⌜ Stepped answerNumber (now (board .entry)) (now (memory .entry)) (now (eeprom .entry)) (Event.PortPins Port.PortB pins) r (now (board .exit)) (now (memory .exit)) (now (eeprom .exit)) ⌝ }
 {
-    let out = numbers::stepped(*board, memory, eeprom, Event::PortPins(Port::PortB, pins));
+    if (memory.len() != 512) | (eeprom.len() != 128) {
+        return 0x62000000;
+    }
+    let out = numbers::stepping::port_pins(*board, memory, eeprom, Port::PortB, pins);
     *board = out.board;
     out.number
 }
@@ -141,7 +165,10 @@ pub extern "C" fn dmm32_port_c_pins(
 ) -> u32
     ensures { λ r. ⌜ Stepped answerNumber (now (board .entry)) (now (memory .entry)) (now (eeprom .entry)) (Event.PortPins Port.PortC pins) r (now (board .exit)) (now (memory .exit)) (now (eeprom .exit)) ⌝ }
 {
-    let out = numbers::stepped(*board, memory, eeprom, Event::PortPins(Port::PortC, pins));
+    if (memory.len() != 512) | (eeprom.len() != 128) {
+        return 0x62000000;
+    }
+    let out = numbers::stepping::port_pins(*board, memory, eeprom, Port::PortC, pins);
     *board = out.board;
     out.number
 }
@@ -151,7 +178,10 @@ pub extern "C" fn dmm32_port_c_pins(
 pub extern "C" fn dmm32_tick(board: &mut Board, memory: &mut [u16], eeprom: &mut [u8]) -> u32
     ensures { λ r. ⌜ Stepped answerNumber (now (board .entry)) (now (memory .entry)) (now (eeprom .entry)) Event.Tick r (now (board .exit)) (now (memory .exit)) (now (eeprom .exit)) ⌝ }
 {
-    let out = numbers::stepped(*board, memory, eeprom, Event::Tick);
+    if (memory.len() != 512) | (eeprom.len() != 128) {
+        return 0x62000000;
+    }
+    let out = numbers::stepping::tick(*board, memory, eeprom);
     *board = out.board;
     out.number
 }
@@ -165,7 +195,10 @@ pub extern "C" fn dmm32_transfer_end(
 ) -> u32
     ensures { λ r. ⌜ Stepped answerNumber (now (board .entry)) (now (memory .entry)) (now (eeprom .entry)) Event.TransferEnd r (now (board .exit)) (now (memory .exit)) (now (eeprom .exit)) ⌝ }
 {
-    let out = numbers::stepped(*board, memory, eeprom, Event::TransferEnd);
+    if (memory.len() != 512) | (eeprom.len() != 128) {
+        return 0x62000000;
+    }
+    let out = numbers::stepping::transfer_end(*board, memory, eeprom);
     *board = out.board;
     out.number
 }

@@ -4,7 +4,7 @@ use Prim.Native.Nat.{ℕ}
 use mathlib.Core.Path.{_≡_, sym, _∙_}
 use mathlib.Core.List.{List}
 use Rattle.machine.specs.declared.Board.{Board}
-use Rattle.board.specs.Step.{stepOf, memoryAfter, eepromAfter}
+use Rattle.board_step.specs.Step.{stepOf, memoryAfter, eepromAfter}
 use Rattle.events.specs.declared.Answer.{Answer}
 use Rattle.events.specs.declared.Event.{Event}
 

@@ -10,7 +10,7 @@ use Rattle.events.specs.Answers.{refusalNumber, valueRead}
 use Rattle.events.specs.declared.Answer.{Answer}
 use Rattle.events.specs.declared.Answer.the-variants.{Done, Byte, Word, Refused}
 use Rattle.events.specs.declared.Event.{Event}
-use Rattle.board.specs.Step.{stepOf}
+use Rattle.board_step.specs.Step.{stepOf}
 use Rattle.board.specs.Answers.{answer-number}
 use Rattle.board.specs.Order.{refusal-bound}
 use Rattle.numbers.specs.Packed.{packed, kindOf, answerNumber}

@@ -2,3 +2,4 @@ pub mod Packed
 pub mod Boards
 pub mod Collecting
 pub mod Decoded
+pub mod Lengths

@@ -4,7 +4,7 @@ use Prim.Native.Nat.{ℕ, _+_, _*_, _%_}
 use Rattle.events.specs.Answers.{refusalNumber, valueRead}
 use Rattle.events.specs.declared.Answer.{Answer}
 use Rattle.events.specs.declared.Answer.the-variants.{Done, Byte, Word, Refused}
-use Rattle.board.specs.declared.Outcome.{Outcome}
+use Rattle.board_step.specs.declared.Outcome.{Outcome}
 use Rattle.numbers.specs.declared.Numbered.{Numbered}
 
 abbrev pub packed : ℕ → ℕ → ℕ → ℕ

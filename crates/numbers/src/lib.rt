@@ -1,15 +1,15 @@
 // The board's and the collector's answers as plain numbers and records of numbers, for hosts in other languages (include/cowriestep.h): by value,
 // so that the exported functions only pass them on.
 ghost use mathlib.Core.Path.{_≡_};
-ghost use Rattle.board.specs.Step.{stepOf, memoryAfter, eepromAfter};
 ghost use Rattle.board_stores.specs.Stores.{freshMemory, freshEeprom, storesAnswer};
 ghost use Rattle.numbers.specs.Packed.{answerNumber, numberedOf};
 ghost use Rattle.numbers.specs.Boards.{byteOf, freshOf};
 use board::Answer;
 use board::Board;
-use board::Event;
 use board::Jumpers;
+use board::Outcome;
 
+pub mod stepping; // an event of each kind
 pub mod collecting; // the collector, and whole scans
 
 // The record after an event, and its answer as one number.
@@ -31,13 +31,10 @@ pub fn number_of(answer: Answer) -> u32
     }
 }
 
-// One event, by value, with its answer as a number.
-pub fn stepped(board: Board, memory: &mut [u16], eeprom: &mut [u8], event: Event) -> Numbered
-    ensures { λ r. ⌜ r ≡ numberedOf (stepOf board (now (memory .entry)) (now (eeprom .entry)) event) ⌝ }
-    ensures { λ r. ⌜ now (memory .exit) ≡ memoryAfter board (now (memory .entry)) (now (eeprom .entry)) event ⌝ }
-    ensures { λ r. ⌜ now (eeprom .exit) ≡ eepromAfter board (now (memory .entry)) (now (eeprom .entry)) event ⌝ }
+// What a step answers, with the answer as a number.
+fn in_numbers(out: Outcome) -> Numbered
+    ensures { λ r. ⌜ r ≡ numberedOf out ⌝ }
 {
-    let out = board::step(board, memory, eeprom, event);
     let after = out.board;
     let answer = out.answer;
     Numbered {
