@@ -7,7 +7,7 @@ pub fn digit_of(byte: u8) -> u8
     ensures { λ r. ⌜ r ≡ digitOf byte ⌝ }
 {
     if (48 <= byte) & (byte <= 57) {
-        byte % 16
+        byte - 48
     } else {
         10
     }
@@ -18,7 +18,7 @@ pub fn hex_of(byte: u8) -> u8
     ensures { λ r. ⌜ r ≡ hexOf byte ⌝ }
 {
     if (48 <= byte) & (byte <= 57) {
-        byte % 16
+        byte - 48
     } else if (65 <= byte) & (byte <= 70) | (97 <= byte) & (byte <= 102) {
         byte % 16 + 9
     } else {

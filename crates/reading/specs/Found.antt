@@ -16,6 +16,13 @@ unfoldable pub plain : List ℕ → Bool
 plain [] = true
 plain (b ∷ bytes) = if eqb b 10 then false else plain bytes
 
+-- ---- the bytes from `from` to i are read, and none of them is a newline
+pub record Scanned (reading : Reading) (piece : List ℕ) (from : ℕ) (r : Reading) (i : ℕ) : Type 0 where
+  pub least : from ≤ i
+  pub most : i ≤ length piece
+  pub unbroken : plain (slice from i piece) ≡ true
+  pub read : r ≡ readFrom reading (slice from i piece)
+
 -- ---- what `read_line` finds: the bytes up to a newline, or to the piece's end
 pub record Found (reading : Reading) (piece : List ℕ) (from : ℕ) (r : Line) : Type 0 where
   pub least : from ≤ r .end

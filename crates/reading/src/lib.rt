@@ -1,9 +1,12 @@
-// A line of a session, read byte after byte. What is kept of it has a fixed size, whatever the line's length.
+// A line of a session, of which what is kept has a fixed size, whatever the line's length.
+pub mod bytes; // whatever the bytes are
+mod whole; // the usual bytes, where a line begins
+
 ghost use mathlib.Core.Path.{_≡_};
 ghost use Prim.Native.Nat.{_≤_};
 ghost use lib.ListN.{length};
-ghost use Rattle.reading.specs.Reading.{firstTaken, letterTaken, minusTaken, begunTaken, numberEnded, zeroTaken, grown, digitTaken, firstHexTaken, secondHexTaken, taken};
 ghost use Rattle.reading.specs.Found.{Found};
+ghost use Rattle.reading.specs.Whole.{isBlank};
 
 // The number that a line has after its letter: the offset of W, that of R, the code of C, and that code after its minus.
 pub enum Number {
@@ -43,148 +46,21 @@ pub struct Line {
     pub end: usize,
 }
 
-fn take_first(byte: u8) -> Reading
-    ensures { λ r. ⌜ r ≡ firstTaken byte ⌝ }
-{
-    if byte == b'W' {
-        Reading::Letter(Number::WriteOffset)
-    } else if byte == b'R' {
-        Reading::Letter(Number::ReadOffset)
-    } else if byte == b'C' {
-        Reading::Letter(Number::Code)
-    } else if byte == b'X' {
-        Reading::Single
-    } else {
-        Reading::Spoiled
-    }
-}
-
-fn take_letter(number: Number, byte: u8) -> Reading
-    ensures { λ r. ⌜ r ≡ letterTaken number byte ⌝ }
-{
-    if byte == b' ' {
-        Reading::Begun(number)
-    } else {
-        Reading::Spoiled
-    }
-}
-
-fn take_minus(number: Number) -> Reading
-    ensures { λ r. ⌜ r ≡ minusTaken number ⌝ }
-{
-    match number {
-        Number::WriteOffset => Reading::Spoiled,
-        Number::ReadOffset => Reading::Spoiled,
-        Number::Code => Reading::Begun(Number::MinusCode),
-        Number::MinusCode => Reading::Spoiled,
-    }
-}
-
-fn take_begun(number: Number, byte: u8) -> Reading
-    ensures { λ r. ⌜ r ≡ begunTaken number byte ⌝ }
-{
-    let digit = digits::digit_of(byte);
-    if byte == b'-' {
-        take_minus(number)
-    } else if digit == 0 {
-        Reading::Zero(number)
-    } else if digit < 10 {
-        Reading::Digits(number, digit as u16)
-    } else {
-        Reading::Spoiled
-    }
-}
-
-// A space after the number n: a value follows an offset of W, and nothing else has a second field.
-fn end_number(number: Number, n: u16) -> Reading
-    ensures { λ r. ⌜ r ≡ numberEnded number n ⌝ }
-{
-    match number {
-        Number::WriteOffset => {
-            if n <= 99 {
-                Reading::Offset(n as u8)
-            } else {
-                Reading::Spoiled
-            }
-        }
-        Number::ReadOffset => Reading::Spoiled,
-        Number::Code => Reading::Spoiled,
-        Number::MinusCode => Reading::Spoiled,
-    }
-}
-
-fn take_zero(number: Number, byte: u8) -> Reading
-    ensures { λ r. ⌜ r ≡ zeroTaken number byte ⌝ }
-{
-    if byte == b' ' {
-        end_number(number, 0)
-    } else {
-        Reading::Spoiled
-    }
-}
-
-// One more digit. A number that leaves 16 bits is above every limit.
-fn grow(number: Number, n: u16, digit: u8) -> Reading
-    ensures { λ r. ⌜ r ≡ grown number n digit ⌝ }
-{
-    let m = (n as u32) * 10 + (digit as u32);
-    if m <= 65535 {
-        Reading::Digits(number, m as u16)
-    } else {
-        Reading::Spoiled
-    }
-}
-
-fn take_digit(number: Number, n: u16, byte: u8) -> Reading
-    ensures { λ r. ⌜ r ≡ digitTaken number n byte ⌝ }
-{
-    let digit = digits::digit_of(byte);
-    if byte == b' ' {
-        end_number(number, n)
-    } else if digit < 10 {
-        grow(number, n, digit)
-    } else {
-        Reading::Spoiled
-    }
-}
-
-fn take_first_hex(offset: u8, byte: u8) -> Reading
-    ensures { λ r. ⌜ r ≡ firstHexTaken offset byte ⌝ }
-{
-    let digit = digits::hex_of(byte);
-    if digit < 16 {
-        Reading::HalfValue(offset, digit)
-    } else {
-        Reading::Spoiled
-    }
-}
-
-fn take_second_hex(offset: u8, high: u8, byte: u8) -> Reading
-    ensures { λ r. ⌜ r ≡ secondHexTaken offset high byte ⌝ }
-{
-    let digit = digits::hex_of(byte);
-    if digit < 16 {
-        Reading::Whole(offset, high % 16 * 16 + digit)
-    } else {
-        Reading::Spoiled
-    }
-}
-
-// The next byte of the line.
-pub fn take(reading: Reading, byte: u8) -> Reading
-    ensures { λ r. ⌜ r ≡ taken reading byte ⌝ }
+// Whether no byte of the line is read.
+fn is_blank(reading: Reading) -> bool
+    ensures { λ r. ⌜ r ≡ isBlank reading ⌝ }
 {
     match reading {
-        Reading::Blank => take_first(byte),
-        Reading::Letter(number) => take_letter(number, byte),
-        Reading::Begun(number) => take_begun(number, byte),
-        Reading::Zero(number) => take_zero(number, byte),
-        Reading::Digits(number, n) => take_digit(number, n, byte),
-        Reading::Offset(offset) => take_first_hex(offset, byte),
-        Reading::HalfValue(offset, high) => take_second_hex(offset, high, byte),
-        Reading::Whole(_, _) => Reading::Spoiled,
-        Reading::Single => Reading::Spoiled,
-        Reading::Spoiled => Reading::Spoiled,
+        Reading::Blank => true,
+        Reading::Letter(_) => false,
+        Reading::Begun(_) => false,
+        Reading::Zero(_) => false,
+        Reading::Digits(_, _) => false,
+        Reading::Offset(_) => false,
+        Reading::HalfValue(_, _) => false,
+        Reading::Whole(_, _) => false,
+        Reading::Single => false,
+        Reading::Spoiled => false,
     }
 }
 
@@ -193,16 +69,9 @@ pub fn read_line(piece: &[u8], from: usize, reading: Reading) -> Line
     requires { ⌜ from ≤ length (now piece) ⌝ }
     ensures { λ r. ⌜ Found reading (now (piece .entry)) from r ⌝ }
 {
-    let mut reading = reading;
-    let mut i = from;
-    while i < piece.len() {
-        let byte = piece[i];
-        if byte == b'\n' {
-            return Line { reading, end: i };
-        }
-        let next = take(reading, byte);
-        reading = next;
-        i += 1;
+    if is_blank(reading) {
+        whole::read_blank(piece, from)
+    } else {
+        bytes::read_on(piece, from, reading)
     }
-    Line { reading, end: i }
 }

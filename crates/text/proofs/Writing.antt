@@ -74,7 +74,7 @@ pub copied-all : {text out₀ out : List ℕ} {at i : ℕ} → Copied text out�
 copied-all {text} {out₀} {at = at} {i = i} f h =
     record { next = (let k = f .index in omega arith); bytes = f .bytes ∙ ap (sets out₀ at) (take-all i text h) }
 
--- ---- the loop of `spell`: what is left of the number has still to stand before `from`
+-- ---- the loop of `spell`: what is left of the number has still to stand at `from` and before it
 pub drop-set : (l : List ℕ) (i x : ℕ) → i < length l → drop i (set l i x) ≡ x ∷ drop (suc i) l
 drop-set [] i x h = absurd (omega arith)
 drop-set (y ∷ l) zero x h = refl
@@ -83,48 +83,64 @@ drop-set (y ∷ l) (suc i) x h = drop-set l i x (omega arith)
 pub record Spelled (n : ℕ) (digits : List ℕ) (from left : ℕ) : Type 0 where
   pub size : length digits ≡ 20
   pub within : from ≤ 19
-  pub small : left < 10 ^ from
-  pub text : digitsOf from left ++ drop from digits ≡ decimalText n
+  pub small : left < 10 * 10 ^ from
+  pub fits : left < 2 ^ 64
+  pub text : digitsOf from (left / 10) ++ ((48 + left % 10) ∷ drop (suc from) digits) ≡ decimalText n
 
-pub spelled-first : (n : ℕ) (digits : List ℕ) → n < 2 ^ 64 → length digits ≡ 20 → Spelled n (set digits 19 (48 + n % 10)) 19 (n / 10)
+pub spelled-none : (n : ℕ) (digits : List ℕ) → n < 2 ^ 64 → length digits ≡ 20 → Spelled n digits 19 n
 unfolding decimalText
-spelled-first n digits h e =
+spelled-none n digits h e =
     record {
-      size = length-set digits 19 (48 + n % 10) ∙ e;
+      size = e;
       within = omega arith;
       small = omega arith;
-      text = rw (drop-set digits 19 (48 + n % 10) (omega arith), drop-of-length-le digits {i = 20} (omega arith));
+      fits = h;
+      text = rw (drop-of-length-le digits {i = 20} (omega arith));
     }
 
-pub spelled-room : {n : ℕ} {digits : List ℕ} {from left : ℕ} → Spelled n digits from left → 0 < left → 1 ≤ from
+pub spelled-room : {n : ℕ} {digits : List ℕ} {from left : ℕ} → Spelled n digits from left → 9 < left → 1 ≤ from
 spelled-room {from = zero} s h = absurd (let k = s .small in omega arith)
 spelled-room {from = suc k} s h = omega arith
 
-pub spelled-more : {n : ℕ} {digits : List ℕ} {from left : ℕ} → Spelled n digits from left → 0 < left
-    → Spelled n (set digits (from - 1) (48 + left % 10)) (from - 1) (left / 10)
+pub spelled-more : {n : ℕ} {digits : List ℕ} {from left : ℕ} → Spelled n digits from left → 9 < left
+    → Spelled n (set digits from (48 + (left - left / 10 * 10))) (from - 1) (left / 10)
 unfolding digitsOf
 spelled-more {from = zero} s h = absurd (let k = s .small in omega arith)
 spelled-more {n} {digits} {from = suc k} {left} s h =
     let e : suc k - 1 ≡ k = omega arith in
+    let u : left - left / 10 * 10 ≡ left % 10 = omega arith in
     let size : length digits ≡ 20 = s .size in
     let within : suc k ≤ 19 = s .within in
-    let d : drop k (set digits k (48 + left % 10)) ≡ (48 + left % 10) ∷ drop (suc k) digits = drop-set digits k (48 + left % 10) (omega arith) in
-    let small : left < 10 * 10 ^ k = rw (pow-succ' 10 k) at (s .small) in
-    let t : (digitsOf k (left / 10) ++ ((48 + left % 10) ∷ [])) ++ drop (suc k) digits ≡ decimalText n = rw (ne-eqb left 0 (λ z. omega arith)) at (s .text) in
-    rw e
+    let d : drop (suc k) (set digits (suc k) (48 + left % 10)) ≡ (48 + left % 10) ∷ drop (suc (suc k)) digits = drop-set digits (suc k) (48 + left % 10) (omega arith) in
+    let fits : left < 2 ^ 64 = s .fits in
+    let small : left < 10 * (10 * 10 ^ k) = rw (pow-succ' 10 k) at (s .small) in
+    let t : (digitsOf k (left / 10 / 10) ++ ((48 + left / 10 % 10) ∷ [])) ++ ((48 + left % 10) ∷ drop (suc (suc k)) digits) ≡ decimalText n = rw (ne-eqb (left / 10) 0 (λ z. omega arith)) at (s .text) in
+    rw (e, u)
     (record {
-      size = length-set digits k (48 + left % 10) ∙ size;
+      size = length-set digits (suc k) (48 + left % 10) ∙ size;
       within = omega arith;
       small = omega arith;
-      text = rw d (sym (append-assoc (digitsOf k (left / 10)) ((48 + left % 10) ∷ []) (drop (suc k) digits)) ∙ t);
+      fits = omega arith;
+      text = rw d (sym (append-assoc (digitsOf k (left / 10 / 10)) ((48 + left / 10 % 10) ∷ []) ((48 + left % 10) ∷ drop (suc (suc k)) digits)) ∙ t);
     })
 
-pub spelled-all : {n : ℕ} {digits : List ℕ} {from left : ℕ} → Spelled n digits from left → left ≤ 0 → Spells n (record { digits = digits; from = from })
+no-digits : (k : ℕ) → digitsOf k 0 ≡ []
 unfolding digitsOf
-spelled-all {n} {digits} {from = zero} {left} s h = record { size = s .size; within = omega arith; text = s .text }
-spelled-all {n} {digits} {from = suc k} {left} s h =
-    let z : left ≡ 0 = omega arith in
-    record { size = s .size; within = (let w = s .within in omega arith); text = rw (eq-eqb left 0 z) at (s .text) }
+no-digits zero = refl
+no-digits (suc k) = refl
+
+pub spelled-all : {n : ℕ} {digits : List ℕ} {from left : ℕ} → Spelled n digits from left → left ≤ 9
+    → Spells n (record { digits = set digits from (48 + left); from = from })
+spelled-all {n} {digits} {from} {left} s h =
+    let tens : left / 10 ≡ 0 = omega arith in
+    let ones : left % 10 ≡ left = omega arith in
+    let size : length digits ≡ 20 = s .size in
+    let within : from ≤ 19 = s .within in
+    record {
+      size = length-set digits from (48 + left) ∙ size;
+      within = omega arith;
+      text = drop-set digits from (48 + left) (omega arith) ∙ rw (tens, ones, no-digits from) at (s .text);
+    }
 
 pub spelled-part : {n : ℕ} {d : Decimal} → Spells n d → take (20 - d .from) (drop (d .from) (d .digits)) ≡ decimalText n
 spelled-part {d = d} s =

@@ -23,18 +23,20 @@ pub fn copy(text: &[u8], out: &mut [u8], at: usize) -> usize
     at + i
 }
 
+// The decimal digits of n, from the last one to the first.
 fn spell(n: u64) -> Decimal
     ensures { λ r. ⌜ Spells n r ⌝ }
 {
     let mut digits = [48u8; 20];
-    digits[19] = 48 + (n % 10) as u8;
     let mut from: usize = 19;
-    let mut left = n / 10;
-    while left > 0 {
+    let mut left = n;
+    while left > 9 {
+        let tens = left / 10;
+        digits[from] = 48 + (left - tens * 10) as u8;
+        left = tens;
         from -= 1;
-        digits[from] = 48 + (left % 10) as u8;
-        left /= 10;
     }
+    digits[from] = 48 + left as u8;
     Decimal { digits, from }
 }
 

@@ -1,4 +1,5 @@
 -- `digits::digit_of` meets its contract. Assumes nothing.
+use Rattle.digits.proofs.Values.{digit-room, digit-value}
 use Rattle.digits.proofs.digit_of.Statement.{statement}
 use Rattle.digits.proofs.digit_of.Tie as tie
 use Rattle.digits.specs.Digits.{digitOf}
@@ -8,6 +9,7 @@ unfolding digitOf
 digit-of-spec =
     let met =
     tie.spec
-    (λ c. simp (c .if1 .taken))
+    (λ c. digit-room (c .before .args .byte) (c .if1 .taken))
+    (λ c. simp (c .if1 .taken, digit-value (c .before .args .byte) (c .if1 .taken)))
     (λ c. simp (c .if1 .left))
     in tie.close met

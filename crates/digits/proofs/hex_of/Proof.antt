@@ -1,5 +1,6 @@
 -- `digits::hex_of` meets its contract. Assumes nothing.
 use borrow.Author.Needs.{needs}
+use Rattle.digits.proofs.Values.{digit-room, digit-value}
 use Rattle.digits.proofs.hex_of.Statement.{statement}
 use Rattle.digits.proofs.hex_of.Tie as tie
 use Rattle.digits.specs.Digits.{hexOf}
@@ -9,8 +10,9 @@ unfolding hexOf
 hex-of-spec =
     let met =
     tie.spec
+    (λ c. digit-room (c .before .args .byte) (c .if1 .taken))
     (λ c. search needs)
-    (λ c. simp (c .if1 .taken))
+    (λ c. simp (c .if1 .taken, digit-value (c .before .args .byte) (c .if1 .taken)))
     (λ c. simp (c .if2 .taken, c .before .if1 .left))
     (λ c. simp (c .if2 .left, c .before .if1 .left))
     in tie.close met
