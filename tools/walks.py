@@ -103,7 +103,7 @@ def of_parameters(function, types):
 def types_of_locals(function, types):
     """The types of the locals, by name, in the words that Lending.antt has of them."""
     pointer = {name: f'(tyRef {{}} mut (tyInt {width}))' for name, width in (('memory', 'w16'), ('eeprom', 'w8'))}
-    said = dict(board='S.refTy', outcome='S.outTy', copied='Boardᴸ.mir', built=f'{function.built.type}ᴸ.mir' if function.built else '')
+    said = dict(board='S.refTy', outcome='σ', copied='τ', built=f'{function.built.type}ᴸ.mir' if function.built else '')
     said.update(memory_length='(tyInt w64)', eeprom_length='(tyInt w64)', memory_wrong='tyBool', eeprom_wrong='tyBool', wrong='tyBool')
     for place, (name, of) in enumerate(pointer.items()):
         said.update({name: f'(sliceTy {of.format(f"(named {place + 1})")})', name + '_pointer': of.format('erased'), name + '_slice': f'(sliceTy {of.format("erased")})'})

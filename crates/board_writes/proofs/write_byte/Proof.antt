@@ -71,15 +71,15 @@ returns-13 c = arms.write-kept _ _ _ _ _ (ways.opened (c .before .before .before
 
 returns-14 : tie.Need-returns-14
 unfolding writeChecks writeEffect writtenAt countingWritten
-returns-14 c = arms.write-emptied _ _ _ _ _ (ways.opened (c .before .before .before .before .before .before .before .before .before .before .before .before .before .if1 .left) (c .before .before .before .before .before .before .before .before .before .before .before .is-working .ensures) (c .before .before .before .before .before .before .before .before .before .before .if2 .left)) (c .before .before .before .before .before .before .before .before .before .find .ensures) (c .before .before .before .before .before .before .before .enum-told9 .given .1) refl (ways.chosen _ _ (c .before .before .before .before .before .before .is-reset .ensures) (c .before .before .before .before .before .if6 .taken)) (arms.misc-reset _ _ (c .before .before .before .before .before .before .is-reset .ensures) (c .before .before .before .before .before .if6 .taken) (c .before .before .before .before .reset-board .ensures)) (c .before .before .clear2 .ensures)
+returns-14 c = arms.write-emptied _ _ _ _ _ (ways.opened (c .before .before .before .before .before .before .before .before .before .before .before .before .before .if1 .left) (c .before .before .before .before .before .before .before .before .before .before .before .is-working .ensures) (c .before .before .before .before .before .before .before .before .before .before .if2 .left)) (c .before .before .before .before .before .before .before .before .before .find .ensures) (c .before .before .before .before .before .before .before .enum-told9 .given .1) refl (ways.chosen _ _ (c .before .before .before .before .before .before .is-reset .ensures) (c .before .before .before .before .before .if6 .taken)) (arms.misc-reset (c .before .before .before .before .before .before .before .before .before .before .before .before .before .before .before .before .args .board) (c .before .before .before .before .before .before .before .before .before .before .before .before .before .before .before .before .args .value) (c .before .before .before .before .before .before .is-reset .ensures) (c .before .before .before .before .before .if6 .taken) (c .before .before .before .before .reset-board .ensures)) (c .before .before .clear2 .ensures)
 
 returns-15 : tie.Need-returns-15
 unfolding writeChecks writeEffect writtenAt countingWritten
-returns-15 c = arms.write-kept _ _ _ _ _ (ways.opened (c .before .before .before .before .before .before .before .before .before .before .if1 .left) (c .before .before .before .before .before .before .before .before .is-working .ensures) (c .before .before .before .before .before .before .before .if2 .left)) (c .before .before .before .before .before .before .find .ensures) (c .before .before .before .before .enum-told9 .given .1) refl (ways.passed-over _ _ (c .before .before .before .is-reset .ensures) (c .before .before .if6 .left)) refl (arms.misc-cleared _ _ (c .before .before .before .is-reset .ensures) (c .before .before .if6 .left) (c .before .if7 .taken) (c .clear3 .ensures))
+returns-15 c = arms.write-kept _ _ _ _ _ (ways.opened (c .before .before .before .before .before .before .before .before .before .before .if1 .left) (c .before .before .before .before .before .before .before .before .is-working .ensures) (c .before .before .before .before .before .before .before .if2 .left)) (c .before .before .before .before .before .before .find .ensures) (c .before .before .before .before .enum-told9 .given .1) refl (ways.passed-over _ _ (c .before .before .before .is-reset .ensures) (c .before .before .if6 .left)) refl (arms.misc-cleared (c .before .before .before .before .before .before .before .before .before .before .before .before .before .args .board) (c .before .before .before .before .before .before .before .before .before .before .before .before .before .args .value) (c .before .before .before .is-reset .ensures) (c .before .before .if6 .left) (c .before .if7 .taken) (c .clear3 .ensures))
 
 returns-16 : tie.Need-returns-16
 unfolding writeChecks writeEffect writtenAt countingWritten
-returns-16 c = arms.write-kept _ _ _ _ _ (ways.opened (c .before .before .before .before .before .before .before .before .before .before .before .if1 .left) (c .before .before .before .before .before .before .before .before .before .is-working .ensures) (c .before .before .before .before .before .before .before .before .if2 .left)) (c .before .before .before .before .before .before .before .find .ensures) (c .before .before .before .before .before .enum-told9 .given .1) refl (ways.passed-over _ _ (c .before .before .before .before .is-reset .ensures) (c .before .before .before .if6 .left)) refl (arms.misc-paged _ _ (c .before .before .before .before .is-reset .ensures) (c .before .before .before .if6 .left) (c .before .before .if7 .left) (c .forget-key .ensures))
+returns-16 c = arms.write-kept _ _ _ _ _ (ways.opened (c .before .before .before .before .before .before .before .before .before .before .before .if1 .left) (c .before .before .before .before .before .before .before .before .before .is-working .ensures) (c .before .before .before .before .before .before .before .before .if2 .left)) (c .before .before .before .before .before .before .before .find .ensures) (c .before .before .before .before .before .enum-told9 .given .1) refl (ways.passed-over _ _ (c .before .before .before .before .is-reset .ensures) (c .before .before .before .if6 .left)) refl (arms.misc-paged (c .before .before .before .before .before .before .before .before .before .before .before .before .before .before .args .board) (c .before .before .before .before .before .before .before .before .before .before .before .before .before .before .args .value) (c .before .before .before .before .is-reset .ensures) (c .before .before .before .if6 .left) (c .before .before .if7 .left) (c .forget-key .ensures))
 
 returns-17 : tie.Need-returns-17
 unfolding writeChecks writeEffect writtenAt countingWritten
