@@ -4,7 +4,7 @@ ghost use Prim.Native.Nat.{_+_, _≤_};
 ghost use lib.ListN.{length};
 ghost use Rattle.text.specs.Text.{Wrote};
 ghost use Rattle.answers.specs.Answers.{byteAnswer, wordAnswer, refusalAnswer, answerText, irqText, asks, eventText, badText};
-use board::Answer;
+use events::Answer;
 use requests::Flags;
 
 fn put_byte_answer(v: u8, out: &mut [u8], at: usize) -> usize

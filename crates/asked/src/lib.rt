@@ -1,7 +1,7 @@
 // What a command asks of the board.
 ghost use mathlib.Core.Path.{_≡_};
 ghost use Rattle.asked.specs.Asked.{askedBy};
-use board::Event;
+use events::Event;
 use words::Command;
 
 // Nothing, or an event.

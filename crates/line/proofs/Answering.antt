@@ -12,11 +12,11 @@ use Rattle.words.specs.Ends.{commandRead}
 use Rattle.text.specs.Text.{Wrote}
 use Rattle.reading.specs.declared.Reading.the-variants.{Blank}
 use Rattle.text.proofs.Writing.{wrote-as}
-use Rattle.answers.specs.Answers.{asks, raised, eventText, badText}
+use Rattle.answers.specs.Answers.{asks, eventText, badText}
 use Rattle.answers.proofs.Lengths.{event-length, bad-length}
 use Rattle.talk.specs.Session.{Talk, talkOf, counted}
 use Rattle.asked.specs.Asked.{askedBy}
-use Rattle.line.specs.Done.{doneBy, saidBy, lineDone, lineSaid, Answers, Happened, Turned, Done}
+use Rattle.line.specs.Done.{raised, doneBy, saidBy, lineDone, lineSaid, Answers, Happened, Turned, Done}
 use Rattle.asked.specs.declared.Asked.{Asked}
 use Rattle.asked.specs.declared.Asked.the-variants.{Nothing, Happen}
 use Rattle.line.specs.declared.Answered.{Answered}

@@ -1,6 +1,7 @@
 -- One line that was read: the session after it, and what is printed.
 use Prim.Native.Nat.{ℕ}
 use mathlib.Core.Path.{_≡_}
+use mathlib.Core.Bool.{Bool, not, _&&_}
 use mathlib.Core.List.{List}
 use Rattle.machine.specs.declared.Board.{Board}
 use Rattle.board_step.specs.Step.{stepOf, memoryAfter, eepromAfter}
@@ -8,12 +9,16 @@ use Rattle.events.specs.declared.Event.{Event}
 use Rattle.reading.specs.declared.Reading.the-variants.{Blank}
 use Rattle.text.specs.Text.{Wrote}
 use Rattle.words.specs.Ends.{commandRead}
-use Rattle.answers.specs.Answers.{eventText, badText, raised}
+use Rattle.answers.specs.Answers.{asks, eventText, badText}
 use Rattle.asked.specs.Asked.{askedBy}
 use Rattle.asked.specs.declared.Asked.{Asked}
 use Rattle.asked.specs.declared.Asked.the-variants.{Nothing, Happen}
 use Rattle.talk.specs.Session.{Talk, talkOf, counted}
 use Rattle.line.specs.declared.Answered.{Answered}
+
+-- the flags go from none to some
+abbrev pub raised : Board → Board → Bool
+raised before after = not (asks (before .requests .flags)) && asks (after .requests .flags)
 
 abbrev pub doneBy : Talk → Asked → Talk
 doneBy t Nothing = record { board = t .board; memory = t .memory; eeprom = t .eeprom; number = counted (t .number); reading = Blank }

@@ -1,7 +1,7 @@
 // A session's record: how it begins, and whether a line of it has begun.
 ghost use mathlib.Core.Path.{_≡_};
 ghost use Rattle.talk.specs.Session.{beginning, begun};
-use board::Board;
+use machine::Board;
 use reading::Reading;
 
 // The board, what the line so far is, and the number of the last line that was answered.
@@ -16,7 +16,7 @@ pub fn begin() -> Session
     ensures { λ r. ⌜ r ≡ beginning ⌝ }
 {
     Session {
-        board: board::fresh(board::Jumpers::A, false),
+        board: machine::fresh(machine::Jumpers::A, false),
         reading: Reading::Blank,
         number: 0,
     }
