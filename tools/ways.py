@@ -11,8 +11,8 @@ A line of the file answers one of the facts that the function's proof needs, by 
     NEED: TERM
 
 In the term, @thing is the way to what is known of `thing` at that point of the code (`@find .ensures`: what the call of `find` promises), @entry that to
-what is known where the function begins (`@entry .args .board`), and OPENED says
-that both checks before the event's own were passed. Lines `use ..` and `unfolding ..` go into the proof; a line that begins with `#` is a comment. Needs that
+what is known where the function begins (`@entry .args .board`), LENT is the record and both memories there, and OPENED says that both checks before the event's own
+were passed. Where a law's first words are left to the prover (`_`), a proof that is refused takes it much longer. Lines `use ..` and `unfolding ..` go into the proof; a line that begins with `#` is a comment. Needs that
 no line names are answered by `search needs`.
 """
 import os
@@ -21,6 +21,7 @@ import subprocess
 import sys
 import tempfile
 
+LENT = '(@entry .args .board) (@entry .args .memory .now) (@entry .args .eeprom .now)'
 OPENED = '(ways.opened (@if1 .left) (@is-working .ensures) (@if2 .left))'
 
 
@@ -53,7 +54,7 @@ def known(lts, need):
 
 
 def answered(term, ways):
-    return re.sub(r'@([a-z0-9-]+)', lambda m: ways[m[1]], term.replace('OPENED', OPENED))
+    return re.sub(r'@([a-z0-9-]+)', lambda m: ways[m[1]], term.replace('LENT', LENT).replace('OPENED', OPENED))
 
 
 def proof(crate, function, folder):
