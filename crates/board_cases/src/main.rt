@@ -13,12 +13,6 @@ pub struct Run {
     pub more: bool,
 }
 
-fn with_bench(run: Run, bench: Bench) -> Run {
-    let mut next = run;
-    next.bench = bench;
-    next
-}
-
 fn show_if(shown: bool, byte: u8) {
     if shown {
         let text = [byte; 1];
@@ -28,10 +22,11 @@ fn show_if(shown: bool, byte: u8) {
 
 // A fresh board where a line ended.
 fn refresh(run: Run, ended: bool, memory: &mut [u16], eeprom: &mut [u8]) -> Run {
+    let mut next = run;
     if ended {
-        return with_bench(run, bench::start(memory, eeprom, 0, false));
+        next.bench = bench::start(memory, eeprom, 0, false);
     }
-    run
+    next
 }
 
 // One byte of the text: an operation that it completes is done, and the byte is shown where it belongs to the answer.

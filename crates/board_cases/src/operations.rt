@@ -82,20 +82,18 @@ fn conversions(b: Bench, memory: &mut [u16], eeprom: &mut [u8], count: u32) -> B
     c
 }
 
-fn set_byte(b: Bench, eeprom: &mut [u8], value: u32) -> Bench {
+fn set_byte(eeprom: &mut [u8], value: u32) {
     let at = (value / 256 % 256) as usize;
     if at < eeprom.len() {
         eeprom[at] = (value % 256) as u8;
     }
-    b
 }
 
-fn set_place(b: Bench, memory: &mut [u16], value: u32) -> Bench {
+fn set_place(memory: &mut [u16], value: u32) {
     let at = (value / 65536) as usize;
     if at < memory.len() {
         memory[at] = (value % 65536) as u16;
     }
-    b
 }
 
 fn lend(b: Bench, places: usize, bytes: usize) -> Bench {
@@ -121,25 +119,25 @@ fn spoil_bench(b: Bench, n: u32) -> Bench {
     }
 }
 
-fn show_host(b: Bench) -> Bench {
-    view::show_host(b.board);
-    b
-}
-
-fn show_samples(b: Bench, memory: &[u16]) -> Bench {
-    view::show_samples(b.board.fifo, memory);
-    b
+// What leaves the bench: a place of a store is set, or the board is shown.
+fn set_or_show(b: Bench, memory: &mut [u16], eeprom: &mut [u8], letter: u8, value: u32) {
+    match letter {
+        b'm' => set_byte(eeprom, value),
+        b'h' => set_place(memory, value),
+        b'y' => view::show_host(b.board),
+        b'q' => view::show_samples(b.board.fifo, memory),
+        _ => {}
+    }
 }
 
 fn host(b: Bench, memory: &mut [u16], eeprom: &mut [u8], letter: u8, value: u32) -> Bench {
     match letter {
         b'b' => bench::start(memory, eeprom, value / 16 % 16, value % 16 == 1),
-        b'm' => set_byte(b, eeprom, value),
-        b'h' => set_place(b, memory, value),
         b'z' => spoil_bench(b, value),
-        b'y' => show_host(b),
-        b'q' => show_samples(b, memory),
-        _ => b,
+        _ => {
+            set_or_show(b, memory, eeprom, letter, value);
+            b
+        }
     }
 }
 
