@@ -19,7 +19,7 @@ use Rattle.machine.specs.declared.Board.{Board}
 use Rattle.board_refusal.specs.Refusals.{eventChecks}
 use Rattle.board_step.specs.Act.{acted, eepromActed}
 use Rattle.board_step.specs.Step.{ran}
-use Rattle.board_step.specs.Ways.{Stepped, Opened, laid, refused, done}
+use Rattle.board_step.specs.Ways.{Promised, Opened, laid, refused, done}
 use Rattle.board_step.specs.declared.Outcome.{Outcome}
 use Rattle.events.specs.declared.Answer.the-variants.{Refused, Byte, Word}
 use Rattle.events.specs.declared.Event.the-variants.{ReadByte, ReadWord}
@@ -29,14 +29,14 @@ module _ (b : Board) (m e : List ℕ) (n : ℕ) {p k : Place} (o : Opened b m e)
   place : placeOf (b .registers .page) n ≡ k
   place = sym at ∙ told
 
-  pub read-refused : {i : ℕ} → refusal (readChecks k) ≡ i → eqb i 0 ≡ false → Stepped b m e (ReadByte n) (record { board = b; answer = Refused i }) m e
+  pub read-refused : {i : ℕ} → refusal (readChecks k) ≡ i → eqb i 0 ≡ false → Promised b m e (ReadByte n) (record { board = b; answer = Refused i }) m e
   unfolding eventChecks
   read-refused r z = refused b m e (ReadByte n) o (rw place r) z
 
   -- the samples stay
   pub read-kept : {x : ℕ} {d : Board} → refusal (readChecks k) ≡ 0 → readEffect k ≡ Keep → d .fifo ≡ b .fifo → d ≡ afterRead b k
       → x ≡ byteAt b (oldestOf (queue (b .fifo) m)) k
-      → Stepped b m e (ReadByte n) (record { board = d; answer = Byte x }) m e
+      → Promised b m e (ReadByte n) (record { board = d; answer = Byte x }) m e
   unfolding eventChecks ran acted eepromActed
   read-kept {x} {d} r keep f a x≡ =
       done b m e (ReadByte n) o (rw place r)
@@ -46,7 +46,7 @@ module _ (b : Board) (m e : List ℕ) (n : ℕ) {p k : Place} (o : Opened b m e)
   pub read-taken : {x : ℕ} {f : Fifo} {m′ : List ℕ} → refusal (readChecks k) ≡ 0 → readEffect k ≡ Take → b ≡ afterRead b k
       → x ≡ byteAt b (oldestOf (queue (b .fifo) m)) k
       → Leaves (poppedFrom (b .fifo)) (popped (queue (b .fifo) m)) f m′
-      → Stepped b m e (ReadByte n) (record { board = withFifo b f; answer = Byte x }) m′ e
+      → Promised b m e (ReadByte n) (record { board = withFifo b f; answer = Byte x }) m′ e
   unfolding eventChecks ran acted eepromActed
   read-taken {x} r take a x≡ l =
       done b m e (ReadByte n) o (rw place r)
@@ -54,13 +54,13 @@ module _ (b : Board) (m e : List ℕ) (n : ℕ) {p k : Place} (o : Opened b m e)
 
 -- ---- a word is read
 module _ (b : Board) (m e : List ℕ) (n : ℕ) where
-  pub word-outside : Opened b m e → (n ≡ 0 → ⊥) → Stepped b m e (ReadWord n) (record { board = b; answer = Refused 3 }) m e
+  pub word-outside : Opened b m e → (n ≡ 0 → ⊥) → Promised b m e (ReadWord n) (record { board = b; answer = Refused 3 }) m e
   unfolding eventChecks
   word-outside o h = refused b m e (ReadWord n) o (rw (ne-eqb n 0 h)) refl
 
   pub word : {x : ℕ} {f : Fifo} {m′ : List ℕ} → Opened b m e → n ≡ 0 → x ≡ oldestOf (queue (b .fifo) m)
       → Leaves (poppedFrom (b .fifo)) (popped (queue (b .fifo) m)) f m′
-      → Stepped b m e (ReadWord n) (record { board = withFifo b f; answer = Word x }) m′ e
+      → Promised b m e (ReadWord n) (record { board = withFifo b f; answer = Word x }) m′ e
   unfolding eventChecks ran acted eepromActed
   word o h x l =
       done b m e (ReadWord n) o (rw (eq-eqb n 0 h))

@@ -23,7 +23,7 @@ use Rattle.machine.specs.declared.Board.{Board}
 use Rattle.board_refusal.specs.Refusals.{eventChecks}
 use Rattle.board_step.specs.Act.{acted, eepromActed}
 use Rattle.board_step.specs.Step.{ran}
-use Rattle.board_step.specs.Ways.{Stepped, Opened, working, refused, done}
+use Rattle.board_step.specs.Ways.{Promised, Opened, working, refused, done}
 use Rattle.events.specs.declared.Answer.the-variants.{Refused, Done}
 use Rattle.events.specs.declared.Event.the-variants.{ConversionEnd}
 
@@ -41,14 +41,14 @@ unasked r {l} h w e =
 
 -- ---- the whole event
 module _ (b : Board) (m e : List ℕ) (code : ℤ) where
-  pub end-refused : Opened b m e → (b .converter .converting ≡ 1 → ⊥) → Stepped b m e (ConversionEnd code) (record { board = b; answer = Refused 4 }) m e
+  pub end-refused : Opened b m e → (b .converter .converting ≡ 1 → ⊥) → Promised b m e (ConversionEnd code) (record { board = b; answer = Refused 4 }) m e
   unfolding eventChecks
   end-refused o h = refused b m e (ConversionEnd code) o (rw (ne-eqb (b .converter .converting) 1 h)) refl
 
   end : {x : ℕ} {f : Fifo} {q : Requests} {k : Converter} {m′ : List ℕ} → Opened b m e → b .converter .converting ≡ 1 → x ≡ sampleOf code
       → Leaves (pushedTo (b .fifo)) (pushed (queue (b .fifo) m) x) f m′
       → q ≡ askedAd (b .requests) (isLast (b .converter)) (f .held) → k ≡ ended (b .converter)
-      → Stepped b m e (ConversionEnd code) (record { board = withConverter (withRequests (withFifo b f) q) k; answer = Done }) m′ e
+      → Promised b m e (ConversionEnd code) (record { board = withConverter (withRequests (withFifo b f) q) k; answer = Done }) m′ e
   unfolding eventChecks ran acted eepromActed
   end o h x p q k =
       done b m e (ConversionEnd code) o (rw (eq-eqb (b .converter .converting) 1 h))
@@ -58,10 +58,10 @@ module _ (b : Board) (m e : List ℕ) (code : ℤ) where
   module _ {x : ℕ} {f : Fifo} {m′ : List ℕ} {t : Bool} (o : Opened b m e) (h : b .converter .converting ≡ 1) (x≡ : x ≡ sampleOf code)
       (l : Leaves (pushedTo (b .fifo)) (pushed (queue (b .fifo) m) x) f m′) (t≡ : t ≡ isLast (b .converter)) where
     pub end-over : {q : Requests} → t ≡ true → q ≡ askedAd (b .requests) true (f .held)
-        → Stepped b m e (ConversionEnd code) (record { board = withRequests (withConverter (withFifo b f) (idle (b .converter))) q; answer = Done }) m′ e
+        → Promised b m e (ConversionEnd code) (record { board = withRequests (withConverter (withFifo b f) (idle (b .converter))) q; answer = Done }) m′ e
     end-over i q = end o h x≡ l (q ∙ ap (λ (z : Bool). askedAd (b .requests) z (f .held)) (sym i ∙ t≡)) (rw (not-true (endStarts (b .converter)) (sym t≡ ∙ i)))
 
     pub end-goes : {k : Converter} → t ≡ false → k ≡ started (b .converter)
-        → Stepped b m e (ConversionEnd code) (record { board = withConverter (withFifo b f) k; answer = Done }) m′ e
+        → Promised b m e (ConversionEnd code) (record { board = withConverter (withFifo b f) k; answer = Done }) m′ e
     end-goes i k =
         end o h x≡ l (unasked (b .requests) (f .held) (working o .machine .requests) (sym t≡ ∙ i)) (k ∙ rw (not-not (endStarts (b .converter)) (sym t≡ ∙ i)))

@@ -25,7 +25,7 @@ use Rattle.machine_tick.specs.Tick.{clock0, clock1, nextTick, dividersTicked, c
 use Rattle.board_refusal.specs.Refusals.{eventChecks}
 use Rattle.board_step.specs.Act.{acted, eepromActed}
 use Rattle.board_step.specs.Step.{ran}
-use Rattle.board_step.specs.Ways.{Stepped, Opened, working, laid, done}
+use Rattle.board_step.specs.Ways.{Promised, Opened, working, laid, done}
 use Rattle.events.specs.declared.Answer.the-variants.{Done}
 use Rattle.events.specs.declared.Event.the-variants.{Tick}
 
@@ -219,7 +219,7 @@ module _ (b : Board) {n : ℕ} {g : Gates} {p : Bool} (gate : g ≡ gates b) whe
 pub tick : (b : Board) (m e : List ℕ) {h th : ℕ} {k0 k1 k2 : Counter} {q : Requests} {v : Converter} {w : Outputs} {l : Clocks} → Opened b m e
     → h ≡ hundredOf b → th ≡ thousandOf b → First b k0 q → Second b k1 k2 v → w ≡ outputs.ticked (b .outputs)
     → l ≡ record { timer = record { counter0 = k0; counter1 = k1; counter2 = k2 }; hundred = h; thousand = th }
-    → Stepped b m e Tick (record { board = withConverter (withRequests (withClocks (withOutputs b w) l) q) v; answer = Done }) m e
+    → Promised b m e Tick (record { board = withConverter (withRequests (withClocks (withOutputs b w) l) q) v; answer = Done }) m e
 unfolding eventChecks ran acted eepromActed
 tick b m e o h th x y w l =
     done b m e Tick o refl

@@ -21,8 +21,8 @@ use Rattle.events.specs.declared.Answer.the-variants.{Refused}
 use Rattle.events.specs.declared.Event.{Event}
 
 -- what the contract of each kind of event says
-abbrev pub Stepped : Board → List ℕ → List ℕ → Event → Outcome → List ℕ → List ℕ → Type 0
-Stepped b m e ev r m′ e′ = (r ≡ stepOf b m e ev) × ((m′ ≡ memoryAfter b m e ev) × (e′ ≡ eepromAfter b m e ev))
+abbrev pub Promised : Board → List ℕ → List ℕ → Event → Outcome → List ℕ → List ℕ → Type 0
+Promised b m e ev r m′ e′ = (r ≡ stepOf b m e ev) × ((m′ ≡ memoryAfter b m e ev) × (e′ ≡ eepromAfter b m e ev))
 
 -- both checks before the event's own were passed
 pub record Opened (b : Board) (m e : List ℕ) : Type 0 where
@@ -48,25 +48,25 @@ eeprom-long m e h = right-lengths m e h .1
 
 module _ (b : Board) (m e : List ℕ) (ev : Event) where
   -- refused by 2
-  pub wrong : wrongLengths m e ≡ true → Stepped b m e ev (record { board = b; answer = Refused 2 }) m e
+  pub wrong : wrongLengths m e ≡ true → Promised b m e ev (record { board = b; answer = Refused 2 }) m e
   unfolding stepOf memoryAfter eepromAfter checks
   wrong h = (rw h, (rw h, rw h))
 
   -- refused by 1
   pub broken : {w : Bool} → wrongLengths m e ≡ false → w ≡ workingBoard b m → not w ≡ true
-      → Stepped b m e ev (record { board = b; answer = Refused 1 }) m e
+      → Promised b m e ev (record { board = b; answer = Refused 1 }) m e
   unfolding stepOf memoryAfter eepromAfter checks
   broken {w} l k h = let f : workingBoard b m ≡ false = sym k ∙ not-true w h in (rw (l, f), (rw (l, f), rw (l, f)))
 
   -- refused by a check of the event's own
   pub refused : {n : ℕ} → Opened b m e → refusal (eventChecks b ev) ≡ n → eqb n 0 ≡ false
-      → Stepped b m e ev (record { board = b; answer = Refused n }) m e
+      → Promised b m e ev (record { board = b; answer = Refused n }) m e
   unfolding stepOf memoryAfter eepromAfter checks
   refused o k z = (rw (o .long, o .working, k, z), (rw (o .long, o .working, k, z), rw (o .long, o .working, k, z)))
 
   -- not refused
   pub done : {r : Outcome} {m′ e′ : List ℕ} → Opened b m e → refusal (eventChecks b ev) ≡ 0 → Did (ranFrom b m e ev) r m′ e′
-      → Stepped b m e ev r m′ e′
+      → Promised b m e ev r m′ e′
   unfolding stepOf memoryAfter eepromAfter checks
   done o k d =
       (rw (o .long, o .working, k) (d .outcome), (rw (o .long, o .working, k) (d .memory), rw (o .long, o .working, k) (d .eeprom)))

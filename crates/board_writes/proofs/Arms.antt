@@ -35,7 +35,7 @@ use Rattle.machine_reset.specs.Reset.{isReset, boardReset, requestsCleared, wit
 use Rattle.board_refusal.specs.Refusals.{eventChecks}
 use Rattle.board_step.specs.Act.{acted, eepromActed}
 use Rattle.board_step.specs.Step.{ran}
-use Rattle.board_step.specs.Ways.{Stepped, Opened, laid, refused, done, chosen}
+use Rattle.board_step.specs.Ways.{Promised, Opened, laid, refused, done, chosen}
 use Rattle.events.specs.declared.Answer.the-variants.{Refused, Done}
 use Rattle.events.specs.declared.Event.the-variants.{WriteByte}
 
@@ -43,13 +43,13 @@ module _ (b : Board) (m e : List ℕ) (n v : ℕ) {p k : Place} (o : Opened b m 
   place : placeOf (b .registers .page) n ≡ k
   place = sym at ∙ told
 
-  pub write-refused : {i : ℕ} → refusal (writeChecks b k v) ≡ i → eqb i 0 ≡ false → Stepped b m e (WriteByte n v) (record { board = b; answer = Refused i }) m e
+  pub write-refused : {i : ℕ} → refusal (writeChecks b k v) ≡ i → eqb i 0 ≡ false → Promised b m e (WriteByte n v) (record { board = b; answer = Refused i }) m e
   unfolding eventChecks
   write-refused r z = refused b m e (WriteByte n v) o (rw place r) z
 
   -- the samples stay
   pub write-kept : {d : Board} → refusal (writeChecks b k v) ≡ 0 → writeEffect k v ≡ Keep → d .fifo ≡ b .fifo → d ≡ writtenAt b k v
-      → Stepped b m e (WriteByte n v) (record { board = d; answer = Done }) m e
+      → Promised b m e (WriteByte n v) (record { board = d; answer = Done }) m e
   unfolding eventChecks ran acted eepromActed
   write-kept {d} r keep f a =
       done b m e (WriteByte n v) o (rw place r)
@@ -58,7 +58,7 @@ module _ (b : Board) (m e : List ℕ) (n v : ℕ) {p k : Place} (o : Opened b m 
   -- none is left
   pub write-emptied : {d : Board} {f : Fifo} {m′ : List ℕ} → refusal (writeChecks b k v) ≡ 0 → writeEffect k v ≡ Empty → d ≡ writtenAt b k v
       → Leaves emptyFifo [] f m′
-      → Stepped b m e (WriteByte n v) (record { board = withFifo d f; answer = Done }) m′ e
+      → Promised b m e (WriteByte n v) (record { board = withFifo d f; answer = Done }) m′ e
   unfolding eventChecks ran acted eepromActed
   write-emptied {d} r empty a l =
       done b m e (WriteByte n v) o (rw place r)

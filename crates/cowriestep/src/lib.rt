@@ -1,7 +1,7 @@
 // What C and Rust hosts link (include/cowriestep.h): the lent board, fresh boards, the collector and the formulas, on plain numbers and records of
 // numbers. Here are the events: each answers memories of the wrong lengths at once (refusal 2), or calls the function of its kind with the record by
 // value and stores what comes back.
-ghost use Rattle.lent.specs.Stepped.{Stepped};
+ghost use Rattle.board_step.specs.Lent.{Stepped};
 ghost use Rattle.numbers.specs.Packed.{answerNumber};
 use board::Board;
 use board::Event;

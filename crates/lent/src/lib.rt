@@ -1,6 +1,6 @@
 // The board as a hypervisor lends it: the record and both memories are the caller's, and it finds them updated. `step` calls `board::step` with the
 // record by value and stores what comes back. What is refused leaves all three as they were.
-ghost use Rattle.lent.specs.Stepped.{Stepped, itself};
+ghost use Rattle.board_step.specs.Lent.{Stepped, itself};
 use board::Answer;
 use board::Board;
 use board::Event;

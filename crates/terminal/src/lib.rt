@@ -1,4 +1,6 @@
-// A session over standard input and standard output. Every decision is in `lines`, each read and its answer in `pieces`.
+// A session over standard input and standard output. Every decision is in the crate `lines`, each read and its answer in pieces.rt.
+mod pieces;
+
 ghost use Prim.Native.Nat.{_≤_};
 ghost use lib.ListN.{length};
 

@@ -1,10 +1,10 @@
 -- What a call over a lent board leaves. The specification, "What is delivered": "The core passes the record by value; above it, the hypervisor lends
 -- one board record and finds it updated."
 use Prim.Native.Nat.{ℕ}
-use mathlib.Core.Path.{_≡_, sym, _∙_}
+use mathlib.Core.Path.{_≡_, refl, sym, _∙_}
 use mathlib.Core.List.{List}
 use Rattle.machine.specs.declared.Board.{Board}
 use Rattle.board_step.specs.Step.{stepOf, memoryAfter, eepromAfter}
 use Rattle.events.specs.declared.Answer.{Answer}
 use Rattle.events.specs.declared.Event.{Event}
 
@@ -19,7 +19,12 @@ pub record Stepped {X : Type 0} (form : Answer → X) (b : Board) (m e : List �
 abbrev pub itself : Answer → Answer
 itself a = a
 
--- two outcomes that the promise permits are equal
+-- what the step by value gives is such an outcome
+pub stepped : {X : Type 0} (form : Answer → X) (b : Board) (m e : List ℕ) (event : Event)
+    → Stepped form b m e event (form (stepOf b m e event .answer)) (stepOf b m e event .board) (memoryAfter b m e event) (eepromAfter b m e event)
+stepped form b m e event = record { answer = refl; board = refl; memory = refl; eeprom = refl }
+
+-- and the only one: two outcomes that the promise permits are equal
 pub determined : {X : Type 0} {form : Answer → X} {b : Board} {m e : List ℕ} {event : Event} {x x′ : X} {b₁ b₂ : Board} {m₁ m₂ e₁ e₂ : List ℕ}
     → Stepped form b m e event x b₁ m₁ e₁ → Stepped form b m e event x′ b₂ m₂ e₂ → (x ≡ x′) × (b₁ ≡ b₂) × (m₁ ≡ m₂) × (e₁ ≡ e₂)
 determined s t =

@@ -1,8 +1,8 @@
--- `pieces::turn` meets its contract: the bytes of the buffer that were read are taken. Assumes nothing.
+-- `terminal::pieces::turn` meets its contract: the bytes of the buffer that were read are taken. Assumes nothing.
 use borrow.Author.Needs.{needs}
-use Rattle.pieces.proofs.Parts.{took-none, took-read}
-use Rattle.pieces.proofs.turn.Statement.{statement}
-use Rattle.pieces.proofs.turn.Tie as tie
+use Rattle.terminal.proofs.Parts.{took-none, took-read}
+use Rattle.terminal.proofs.pieces.turn.Statement.{statement}
+use Rattle.terminal.proofs.pieces.turn.Tie as tie
 
 read-requires : tie.Need-read-requires
 read-requires c κs = search needs

@@ -1,4 +1,4 @@
--- `pieces::answer` meets its contract: the bytes before `from` are taken, and each turn takes one at least, since `out` has room for an answer. Assumes nothing.
+-- `terminal::pieces::answer` meets its contract: the bytes before `from` are taken, and each turn takes one at least, since `out` has room for an answer. Assumes nothing.
 use mathlib.Core.Path.{_≡_, refl, sym, _∙_}
 use Prim.Native.Nat.{_-_, _≤_}
 use native.Mathlib.Omega.{arith}
@@ -7,9 +7,9 @@ use lib.Seq.{length-take-le}
 use borrow.Author.Needs.{needs}
 use Rattle.talk.specs.Session.{talkOf}
 use Rattle.lines.specs.Feeding.{final}
-use Rattle.pieces.proofs.Parts.{rest-within, rest-taken, talk-none, talk-more, took-all}
-use Rattle.pieces.proofs.answer.Statement.{statement}
-use Rattle.pieces.proofs.answer.Tie as tie
+use Rattle.terminal.proofs.Parts.{rest-within, rest-taken, talk-none, talk-more, took-all}
+use Rattle.terminal.proofs.pieces.answer.Statement.{statement}
+use Rattle.terminal.proofs.pieces.answer.Tie as tie
 
 abbrev Inv-loop : tie.InvT-loop
 Inv-loop piece memory₀ eeprom₀ out₀ session₀ from₀ more₀ memory eeprom out session from more = (from ≤ length piece) × (length memory ≡ length memory₀) × (length eeprom ≡ length eeprom₀) × (length out ≡ length out₀) × (talkOf session memory eeprom ≡ final (talkOf session₀ memory₀ eeprom₀) (take from piece))

@@ -3,7 +3,7 @@ ghost use mathlib.Core.Path.{_≡_};
 ghost use Prim.Native.Nat.{_≤_};
 ghost use lib.ListN.{length, take};
 ghost use Rattle.talk.specs.Session.{talkOf};
-ghost use Rattle.pieces.specs.Took.{Took};
+ghost use Rattle.terminal.specs.Took.{Took};
 use libc::STDOUT_FILENO;
 use lines::Session;
 

@@ -5,7 +5,7 @@ use mathlib.Core.List.{List}
 use lib.ListN.{length}
 use Rattle.talk.specs.Session.{Talk, talkOf}
 use Rattle.lines.specs.Feeding.{final}
-use Rattle.pieces.specs.declared.Turned.{Turned}
+use Rattle.terminal.specs.declared.pieces.Turned.{Turned}
 
 -- all the bytes are taken, and the session and both memories are those after them
 pub record Took (t : Talk) (bytes memory eeprom : List ℕ) (r : Turned) : Type 0 where

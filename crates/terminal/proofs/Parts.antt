@@ -11,8 +11,8 @@ use Rattle.talk.specs.declared.Session.{Session}
 use Rattle.lines.specs.Feeding.{final, Ran}
 use Rattle.lines.specs.Pieces.{final-append, takes-some}
 use Rattle.lines.specs.declared.Fed.{Fed}
-use Rattle.pieces.specs.Took.{Took}
-use Rattle.pieces.specs.declared.Turned.{Turned}
+use Rattle.terminal.specs.Took.{Took}
+use Rattle.terminal.specs.declared.pieces.Turned.{Turned}
 
 abbrev pub rest : List ℕ → ℕ → List ℕ
 rest piece from = take (length piece - from) (drop from piece)
