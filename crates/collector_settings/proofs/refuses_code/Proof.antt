@@ -1,0 +1,10 @@
+-- `collector_settings::refuses_code` meets its contract. Assumes nothing.
+use mathlib.Core.Path.{refl}
+use Rattle.collector_settings.proofs.refuses_code.Statement.{statement}
+use Rattle.collector_settings.proofs.refuses_code.Tie as tie
+
+pub refuses-code-spec : {M : Type 1} → statement M
+refuses-code-spec =
+    let met =
+    tie.spec (λ c. refl)
+    in tie.close met

@@ -1,0 +1,20 @@
+-- `numbers::collecting::refusal_handed` meets its contract. Assumes nothing.
+use borrow.Author.Needs.{needs}
+use Rattle.numbers.proofs.collecting.refusal_handed.Statement.{statement}
+use Rattle.numbers.proofs.collecting.refusal_handed.Tie as tie
+
+pub refusal-handed-spec : {M : Type 1} → statement M
+refusal-handed-spec =
+    let met =
+    tie.spec
+    (λ c. search needs)
+    (λ c. search needs)
+    (λ c. search needs)
+    (λ c. search needs)
+    (λ c. search needs)
+    (λ c. search needs)
+    (λ c. search needs)
+    (λ c. search needs)
+    (λ c. search needs)
+    (λ c. search needs)
+    in tie.close met
