@@ -72,6 +72,10 @@ def logic_parts(file, text):
     return {part: tuple(value) for part, value in found.items()}
 
 
+# A proof's lines for the modules that the prover makes of the function itself: the names in their paths are those of src/.
+OWN_MODULES = re.compile(r'^use Rattle·\w+·proofs\.proofs\.\S+\.(?:Statement|Tie|Reads|Lts)\b.*$', re.M)
+
+
 class Crate:
     def __init__(self, name):
         self.name, self.root = name, f'crates/{name}'
@@ -84,8 +88,10 @@ class Crate:
         self.proof_files = {}
         for path in sorted(glob.glob(f'{self.root}/specs/**/*.antt', recursive=True) + glob.glob(f'{self.root}/proofs/**/*.antt', recursive=True)):
             file, text = os.path.relpath(path, self.root), open(path).read()
-            self.aliases[file] = re.findall(r'([^\s{},]+) as ([^\s{},;]+)', text)
             owner = self.owner(file)
+            if owner:
+                text = OWN_MODULES.sub('', text)
+            self.aliases[file] = re.findall(r'([^\s{},]+) as ([^\s{},;]+)', text)
             if owner:
                 self.proof_files.setdefault(owner, []).append((file, without_comments(text, '--')))
             else:
