@@ -4,7 +4,8 @@
  * The record, the answers and the functions are those of include/cowriestep.h, and so is what each event does: the lengths and the whole working board
  * are looked at in every event, refusals come in the same order, and what is refused changes nothing. The record is changed where it stands.
  *
- * BASELINE_PREFIX begins the name of each function, so that this text can be linked more than once, compiled in different ways.
+ * BASELINE_PREFIX begins the name of each function, so that this text can be linked more than once, compiled in different ways. The functions that do many
+ * ticks are there where BASELINE_TIME is defined: what a compiler makes of a single tick then does not depend on the loop.
  */
 #include <string.h>
 
@@ -92,7 +93,7 @@ static bool record_works(const struct dmm32_board *b)
 
 static bool free_places_are_zero(const uint16_t *memory, unsigned held)
 {
-    static const uint16_t zeros[PLACES];
+    static const _Alignas(1024) uint16_t zeros[PLACES];      /* aligned: whether memcmp sees a page's end near depends on the samples' address alone */
     return memcmp(memory + held, zeros, (PLACES - held) * sizeof *memory) == 0;
 }
 
@@ -742,6 +743,45 @@ uint32_t BASELINE(tick)(struct dmm32_board *b, uint16_t *memory, size_t memory_l
         b->outputs.busy--;
     return DONE;
 }
+
+#ifdef BASELINE_TIME
+/* The checks once, then tick after tick where the record stands. */
+static struct dmm32_advanced advanced(struct dmm32_board *b, const uint16_t *memory, size_t memory_length, size_t eeprom_length, uint32_t ticks)
+{
+    unsigned number = refusal(b, memory, memory_length, eeprom_length);
+    struct dmm32_clocks *k = &b->clocks;
+    uint32_t done = 0;
+    if (number)
+        return (struct dmm32_advanced){REFUSED(number), 0};
+    while (done < ticks) {
+        unsigned converting = b->converter.converting, tint = b->requests.flags.tint;
+        k->hundred = k->hundred < 99 ? k->hundred + 1 : 0;
+        k->thousand = k->thousand < 999 ? k->thousand + 1 : 0;
+        if (!(b->registers.counting & SRC0) && (!(b->registers.counting & FREQ0) || k->thousand == 0))
+            clock0(b);
+        if (!(b->registers.counting & FREQ12) || k->hundred == 0)
+            clock1(b);
+        if (b->outputs.busy)
+            b->outputs.busy--;
+        done++;
+        if (b->converter.converting > converting || b->requests.flags.tint > tint)
+            break;
+    }
+    return (struct dmm32_advanced){DONE, done};
+}
+
+struct dmm32_advanced BASELINE(advance)(struct dmm32_board *b, uint16_t *memory, size_t memory_length, uint8_t *eeprom, size_t eeprom_length, uint32_t ticks)
+{
+    (void)eeprom;
+    return advanced(b, memory, memory_length, eeprom_length, ticks);
+}
+
+uint32_t BASELINE(ticks_until)(struct dmm32_board board, const uint16_t *memory, size_t memory_length, const uint8_t *eeprom, size_t eeprom_length, uint32_t most)
+{
+    (void)eeprom;
+    return advanced(&board, memory, memory_length, eeprom_length, most).done;
+}
+#endif
 
 uint32_t BASELINE(transfer_end)(struct dmm32_board *b, uint16_t *memory, size_t memory_length, uint8_t *eeprom, size_t eeprom_length)
 {

@@ -21,7 +21,14 @@
     uint32_t BOARD_EVENT(prefix##tick));                                                                      \
     uint32_t BOARD_EVENT(prefix##transfer_end))
 
+#define BOARD_READ(name) name(struct dmm32_board board, const uint16_t *memory, size_t memory_length, const uint8_t *eeprom, size_t eeprom_length
+#define DECLARE_TIME(prefix)                                                                                  \
+    struct dmm32_advanced BOARD_EVENT(prefix##advance), uint32_t ticks);                                      \
+    uint32_t BOARD_READ(prefix##ticks_until), uint32_t most)
+
 DECLARE_BASELINE(baseline_o2_);
 DECLARE_BASELINE(baseline_o3_);
+DECLARE_TIME(baseline_o2_time_);
+DECLARE_TIME(baseline_o3_time_);
 
 #endif

@@ -5,6 +5,7 @@ import subprocess
 import sys
 
 TIMES = 200
+MOST_TICKS = 10**9
 
 
 def collected(out, *words):
@@ -22,11 +23,11 @@ def collected(out, *words):
             call = line.startswith("calls=")
 
 
-def costs(host, times, out):
+def costs(host, out, *words):
     """Instructions and calls from each caller to each callee, with all that the callee calls."""
     found = collections.defaultdict(lambda: (0, 0))
     callee = calls = None
-    for caller, call, line in collected(out, host, "measure", str(times)):
+    for caller, call, line in collected(out, host, *words):
         if line.startswith("cfn="):
             callee = line[4:]
         elif line.startswith("calls="):
@@ -37,15 +38,15 @@ def costs(host, times, out):
     return found
 
 
-def per_event(once, twice, caller, prefix):
-    """What one more call costs: from the difference of two runs, of which one makes twice as many calls."""
+def per_event(once, twice, caller, prefix, times, made):
+    """What one more event costs, which `made` calls make: from the difference of two runs, of which one has twice as many events."""
     callees = [key for key in twice if key[0] == caller and key[1].startswith(prefix)]
     if len(callees) != 1:
         sys.exit(f"bench: {caller} calls {callees}")
     cost, calls = (b - a for a, b in zip(once[callees[0]], twice[callees[0]]))
-    if calls != TIMES or cost % calls != 0:
+    if calls != times * made or cost % times != 0:
         sys.exit(f"bench: {callees[0]}: {cost} instructions in {calls} calls")
-    return cost // calls
+    return cost // times
 
 
 class Counter:
@@ -58,8 +59,13 @@ class Counter:
         return [self.host]
 
     def figures(self, callers, prefixes):
-        once, twice = costs(self.host, TIMES, f"{self.work}/once"), costs(self.host, 2 * TIMES, f"{self.work}/twice")
-        return {caller: [per_event(once, twice, caller, prefix) for prefix in prefixes] for caller in callers}
+        once, twice = (costs(self.host, f"{self.work}/figures", "measure", str(n * TIMES)) for n in (1, 2))
+        return {caller: [per_event(once, twice, caller, prefix, TIMES, 1) for prefix in prefixes] for caller in callers}
+
+    def spans(self, callers, prefixes):
+        """The instructions of each span of ticks; callers has the number of calls that make it."""
+        once, twice = (costs(self.host, f"{self.work}/spans", "spans", str(n), str(MOST_TICKS)) for n in (1, 2))
+        return {caller: [per_event(once, twice, caller, prefix, 1, made) for prefix in prefixes] for caller, made in callers.items()}
 
     def parts(self, caller, moves):
         """The library's instructions of one event, by function, and how many of all are moves."""

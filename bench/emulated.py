@@ -8,6 +8,7 @@ import sys
 
 COMPILER = "x86_64-linux-gnu-gcc"
 TIMES = 3
+MOST_TICKS = 10000    # each instruction is a line that is read here
 
 
 def said(*words):
@@ -37,11 +38,11 @@ class Counter:
     def command(self):
         return command(self.host)
 
-    def addresses(self):
+    def addresses(self, words):
         """The address of each instruction in the order in which they are run."""
-        pipe = f"{self.work}/pipe"
+        pipe = f"{self.work}/{words[0]}"
         os.mkfifo(pipe)
-        run = subprocess.Popen([*telling(self.host, pipe), "measure", str(TIMES)])
+        run = subprocess.Popen([*telling(self.host, pipe), *words])
         with open(pipe) as lines:
             for line in lines:
                 instruction = re.match(r"Trace .*\[[0-9a-f]+/([0-9a-f]+)/", line)
@@ -50,13 +51,13 @@ class Counter:
         if run.wait() != 0:
             sys.exit("bench: the emulated host failed")
 
-    def calls(self, callers, prefixes):
+    def calls(self, callers, prefixes, words):
         """(caller, prefix, how often each address was run) for each call from one of the callers to a function whose name begins with a prefix."""
         bodies = {name: body for body, name in self.functions if name in callers}
         begins = {body[0]: name for name, body in bodies.items()}
         entered = {body[0]: prefix for body, name in self.functions for prefix in prefixes if name.startswith(prefix)}
         caller = prefix = ran = None
-        for address in self.addresses():
+        for address in self.addresses(words):
             caller = begins.get(address, caller)
             if caller and address in bodies[caller]:
                 if ran:
@@ -69,10 +70,10 @@ class Counter:
             else:
                 caller = None
 
-    def figures(self, callers, prefixes):
+    def figures(self, callers, prefixes, words=("measure", str(TIMES))):
         """What a call costs that is not the first: the later ones must cost the same."""
         found = collections.defaultdict(list)
-        for caller, prefix, ran in self.calls(callers, prefixes):
+        for caller, prefix, ran in self.calls(callers, prefixes, words):
             found[caller, prefix].append(sum(ran.values()))
             if prefix == prefixes[0]:
                 self.library[caller] = ran
@@ -80,6 +81,10 @@ class Counter:
             if len(costs) != TIMES or costs[1] != costs[2]:
                 sys.exit(f"bench: {call}: {costs} instructions")
         return {caller: [found[caller, prefix][-1] for prefix in prefixes] for caller in callers}
+
+    def spans(self, callers, prefixes):
+        """The instructions of each span of ticks; the callers are those of one call and at most MOST_TICKS ticks."""
+        return self.figures(callers, prefixes, ("spans", str(TIMES), str(MOST_TICKS)))
 
     def parts(self, caller, moves):
         """The library's instructions of one event, by function, and how many of all are moves."""

@@ -5,8 +5,10 @@
  *   host measure TIMES       runs each of the benchmark's events TIMES times over each of the three, for callgrind to count
  *   host single EVENT TIMES  runs one of them, named by its function, TIMES times over the library alone
  *   host list                prints the benchmark's events, one to a line: the function that makes the call, and what the event is
+ *   host spans TIMES MOST    runs each span of ticks TIMES times over each of the three, but for those of more than MOST ticks
+ *   host list_spans          prints the spans, one to a line: the function that makes the call, what the span is, how many calls make it, and its ticks
  *
- * Every call that is counted is made from a function of its own (`event_...`), so that callgrind's costs from that caller to that callee are the
+ * Every call that is counted is made from a function of its own (`event_...`, `span_...`), so that callgrind's costs from that caller to that callee are the
  * event's alone. Each begins at the same state, which is put back before it.
  */
 #include <inttypes.h>
@@ -29,6 +31,7 @@ struct state {
 };
 
 #define LENT struct dmm32_board *, uint16_t *, size_t, uint8_t *, size_t
+#define KEPT const uint16_t *, size_t, const uint8_t *, size_t
 struct calls {
     const char *name;
     struct dmm32_board (*fresh)(uint32_t, uint32_t);
@@ -44,15 +47,19 @@ struct calls {
     uint32_t (*port_b_pins)(LENT, uint8_t);
     uint32_t (*port_c_pins)(LENT, uint8_t);
     uint32_t (*tick)(LENT);
+    struct dmm32_advanced (*advance)(LENT, uint32_t);
+    uint32_t (*ticks_until)(struct dmm32_board, KEPT, uint32_t);
     uint32_t (*transfer_end)(LENT);
 };
 
-#define CALLS(name, prefix)                                                                                                     \
+#define CALLS(name, prefix, time)                                                                                               \
     {name, prefix##fresh, prefix##fresh_stores, prefix##is_working, prefix##write_byte, prefix##read_byte, prefix##read_word,   \
-     prefix##conversion_end, prefix##din, prefix##latch, prefix##port_a_pins, prefix##port_b_pins, prefix##port_c_pins, prefix##tick, prefix##transfer_end}
+     prefix##conversion_end, prefix##din, prefix##latch, prefix##port_a_pins, prefix##port_b_pins, prefix##port_c_pins, prefix##tick,         \
+     time##advance, time##ticks_until, prefix##transfer_end}
 
 enum { BOARDS = 3 };
-static const struct calls boards[BOARDS] = {CALLS("library", dmm32_), CALLS("baseline -O2", baseline_o2_), CALLS("baseline -O3", baseline_o3_)};
+static const struct calls boards[BOARDS] = {CALLS("library", dmm32_, dmm32_), CALLS("baseline -O2", baseline_o2_, baseline_o2_time_),
+    CALLS("baseline -O3", baseline_o3_, baseline_o3_time_)};
 
 /* ---- the benchmark's events */
 
@@ -181,6 +188,109 @@ static void single(const char *function, unsigned long times)
             repeat(&events[e], 1, times);
 }
 
+/* ---- spans of ticks */
+
+/* The answer of an advance with the ticks done as its number: these are fewer than 2^24 here. */
+static uint32_t as_number(struct dmm32_advanced a) { return a.answer + a.done; }
+
+/* Counters 1 and 2 in mode 2, each with this count; Base + 10 and Base + 9 as given. */
+static void pace(struct state *s, unsigned count, uint8_t counting, uint8_t operation)
+{
+    fresh(s);
+    write_to(s, 10, counting);
+    for (uint8_t n = 1; n <= 2; n++) {
+        write_to(s, 15, (uint8_t)(n << 6 | 0x34));
+        write_to(s, 12 + n, (uint8_t)count);
+        write_to(s, 12 + n, (uint8_t)(count >> 8));
+    }
+    write_to(s, 9, operation);
+}
+
+/* The conversion that has begun ends, and its sample is read. */
+static NOT_INLINED void settle(const struct calls *f, struct state *s)
+{
+    if (!s->board.converter.converting)
+        return;
+    f->conversion_end(STORES(s), 1);
+    f->read_word(STORES(s), 0);
+}
+
+/* The first conversion has just ended. */
+static void converted(struct state *s, unsigned count, uint8_t counting)
+{
+    pace(s, count, counting, 0x03);
+    dmm32_advance(STORES(s), count * count * 100 + 100);
+    if (!s->board.converter.converting) {
+        fprintf(stderr, "bench: set-up: no conversion begins\n");
+        exit(1);
+    }
+    settle(&boards[0], s);
+}
+
+static void set_twos(struct state *s) { converted(s, 2, 0); }
+static void set_tens(struct state *s) { converted(s, 10, 0); }
+static void set_tens_slow(struct state *s) { converted(s, 10, 0x80); }
+static void set_thousands(struct state *s) { converted(s, 1000, 0); }
+static void set_twos_muted(struct state *s) { pace(s, 2, 0, 0); }
+static void set_fours_muted(struct state *s) { pace(s, 4, 0, 0); }
+static void set_three_muted(struct state *s)
+{
+    pace(s, 2, 0, 0);
+    write_to(s, 15, 0x34);
+    write_to(s, 12, 2);
+    write_to(s, 12, 0);
+}
+static void set_tens_muted(struct state *s) { pace(s, 10, 0, 0); }
+
+#define BORROWED(s) (s)->board, (s)->memory, PLACES, (s)->eeprom, EEPROM_BYTES
+
+/* function, set-up, the call, how many of them make the span, the ticks of each, what it is */
+#define SPANS(X)                                                                                                                                             \
+    X(span_twos, set_twos, as_number(f->advance(STORES(s), 100)), 1, 4, "advance: 10 MHz, counts of 2, from a conversion to the next")                            \
+    X(span_twos_muted, set_twos_muted, as_number(f->advance(STORES(s), 100000)), 1, 100000, "advance: 10 MHz, counts of 2, no CLKEN")                           \
+    X(span_fours_muted, set_fours_muted, as_number(f->advance(STORES(s), 100000)), 1, 100000, "advance: 10 MHz, counts of 4, no CLKEN")                         \
+    X(span_three_muted, set_three_muted, as_number(f->advance(STORES(s), 100000)), 1, 100000, "advance: 10 MHz, counts of 2, counter 0 too, no CLKEN") \
+    X(span_tens, set_tens, as_number(f->advance(STORES(s), 1000)), 1, 100, "advance: 10 MHz, counts of 10, from a conversion to the next")                        \
+    X(span_tens_muted, set_tens_muted, as_number(f->advance(STORES(s), 100000)), 1, 100000, "advance: 10 MHz, counts of 10, no CLKEN")                           \
+    X(span_tens_slow, set_tens_slow, as_number(f->advance(STORES(s), 100000)), 1, 10000, "advance: 100 kHz, counts of 10, from a conversion to the next")         \
+    X(span_second, set_thousands, as_number(f->advance(STORES(s), 10000000)), 10, 1000000, "advance: 10 MHz, counts of 1,000, a second: ten conversions")         \
+    X(span_until, set_thousands, f->ticks_until(BORROWED(s), 10000000), 1, 1000000, "ticks_until: 10 MHz, counts of 1,000, from a conversion to the next")        \
+    X(span_until_muted, set_tens_muted, f->ticks_until(BORROWED(s), 100000), 1, 100000, "ticks_until: 10 MHz, counts of 10, no CLKEN")
+
+#define DEFINE_SPAN(function, setup, call, made, ticks, what) \
+    static NOT_INLINED uint32_t function(const struct calls *f, struct state *s) { return call; }
+SPANS(DEFINE_SPAN)
+
+struct span {
+    const char *function;
+    void (*setup)(struct state *);
+    uint32_t (*run)(const struct calls *, struct state *);
+    unsigned calls;
+    uint32_t ticks;
+    const char *what;
+};
+#define LIST_SPAN(function, setup, call, made, ticks, what) {#function, setup, function, made, ticks, what},
+static const struct span spans[] = {SPANS(LIST_SPAN)};
+enum { SPAN_COUNT = sizeof spans / sizeof *spans };
+
+static void measure_spans(unsigned long times, unsigned long most)
+{
+    static struct state at, s;
+    for (const struct span *span = spans; span < spans + SPAN_COUNT; span++) {
+        if ((unsigned long)span->calls * span->ticks > most)
+            continue;
+        span->setup(&at);
+        for (int b = 0; b < BOARDS; b++)
+            for (unsigned long n = 0; n < times; n++) {
+                s = at;
+                for (unsigned call = 0; call < span->calls; call++) {
+                    span->run(&boards[b], &s);
+                    settle(&boards[b], &s);
+                }
+            }
+    }
+}
+
 /* ---- the record's fields, and the most that a working board has in each: 1 in a flag */
 
 #define COUNTER(X, n)                                                                                                                             \
@@ -272,6 +382,28 @@ static void check_events(void)
         }
     }
     printf("bench: library and baseline agree on the %d events of the benchmark\n", EVENT_COUNT);
+}
+
+static void check_spans(void)
+{
+    static struct state s[BOARDS];
+    for (const struct span *span = spans; span < spans + SPAN_COUNT; span++) {
+        span->setup(&s[0]);
+        s[1] = s[2] = s[0];
+        for (unsigned call = 0; call < span->calls; call++) {
+            uint32_t answers[BOARDS];
+            for (int b = 0; b < BOARDS; b++)
+                answers[b] = span->run(&boards[b], &s[b]);
+            check_same(s, answers, span->what);
+            if (answers[0] != span->ticks) {
+                fprintf(stderr, "bench: %s: %08" PRIX32 " is answered, not %" PRIu32 " ticks\n", span->what, answers[0], span->ticks);
+                exit(1);
+            }
+            for (int b = 0; b < BOARDS; b++)
+                settle(&boards[b], &s[b]);
+        }
+    }
+    printf("bench: library and baseline agree on the %d spans of ticks\n", SPAN_COUNT);
 }
 
 /* ---- random events */
@@ -368,15 +500,18 @@ struct happening {
     uint32_t offset, level;
     uint8_t value;
     int16_t code;
+    uint32_t ticks;
     size_t memory_length, eeprom_length;
 };
 
 static struct happening random_event(void)
 {
-    static const uint8_t kinds[] = {0, 0, 0, 0, 0, 1, 1, 1, 2, 2, 3, 3, 3, 3, 4, 4, 5, 6, 7, 8, 9, 9, 9, 9, 10};
+    static const uint8_t kinds[] = {0, 0, 0, 0, 0, 1, 1, 1, 2, 2, 3, 3, 3, 3, 4, 4, 5, 6, 7, 8, 9, 9, 9, 9, 10, 11, 11, 12};
     static const uint32_t wide[] = {16, 255, 256, 263, 271, 65536, 65551, 0x80000000, 0xFFFFFFFF};
-    struct happening h = {kinds[below(sizeof kinds)], below(16), below(16), 0, (int16_t)below(65536), PLACES, EEPROM_BYTES};
+    struct happening h = {kinds[below(sizeof kinds)], below(16), below(16), 0, (int16_t)below(65536), 0, PLACES, EEPROM_BYTES};
     h.value = below(2) ? likely_byte(h.offset) : (uint8_t)below(256);
+    if (h.kind > 10)
+        h.ticks = below(4) ? below(300) : below(2) ? below(3) : below(5000);
     if (h.kind == 2 && below(8))
         h.offset = 0;
     else if (below(30) == 0)
@@ -416,6 +551,10 @@ static uint32_t happen(const struct calls *f, struct state *s, const struct happ
         return f->port_c_pins(GIVEN, h->value);
     case 9:
         return f->tick(GIVEN);
+    case 11:
+        return as_number(f->advance(GIVEN, h->ticks));
+    case 12:
+        return f->ticks_until(s->board, s->memory, h->memory_length, s->eeprom, h->eeprom_length, h->ticks);
     default:
         return f->transfer_end(GIVEN);
     }
@@ -462,11 +601,11 @@ static void check_random(uint64_t seed, unsigned long count)
         }
         struct happening h = random_event();
         uint32_t answers[BOARDS];
-        char what[140];
+        char what[180];
         for (int b = 0; b < BOARDS; b++)
             answers[b] = happen(&boards[b], &s[b], &h);
-        snprintf(what, sizeof what, "random event %lu of seed %" PRIu64 ", kind %u, offset %" PRIu32 ", level %" PRIu32 ", value %u", n, seed, h.kind, h.offset,
-                 h.level, h.value);
+        snprintf(what, sizeof what, "random event %lu of seed %" PRIu64 ", kind %u, offset %" PRIu32 ", level %" PRIu32 ", value %u, ticks %" PRIu32, n, seed,
+                 h.kind, h.offset, h.level, h.value, h.ticks);
         check_same(s, answers, what);
         kinds[COWRIESTEP_KIND(answers[0])]++;
         refusals[COWRIESTEP_REFUSAL(answers[0])]++;
@@ -486,6 +625,7 @@ int main(int count, char **words)
 {
     if (count == 4 && strcmp(words[1], "check") == 0) {
         check_events();
+        check_spans();
         check_random(strtoull(words[2], NULL, 10), strtoul(words[3], NULL, 10));
     } else if (count == 3 && strcmp(words[1], "measure") == 0) {
         measure(strtoul(words[2], NULL, 10));
@@ -494,8 +634,13 @@ int main(int count, char **words)
     } else if (count == 2 && strcmp(words[1], "list") == 0) {
         for (int e = 0; e < EVENT_COUNT; e++)
             printf("%s\t%s\n", events[e].function, events[e].what);
+    } else if (count == 4 && strcmp(words[1], "spans") == 0) {
+        measure_spans(strtoul(words[2], NULL, 10), strtoul(words[3], NULL, 10));
+    } else if (count == 2 && strcmp(words[1], "list_spans") == 0) {
+        for (int n = 0; n < SPAN_COUNT; n++)
+            printf("%s\t%s\t%u\t%" PRIu32 "\n", spans[n].function, spans[n].what, spans[n].calls, spans[n].calls * spans[n].ticks);
     } else {
-        fprintf(stderr, "host check SEED COUNT | host measure TIMES | host single EVENT TIMES | host list\n");
+        fprintf(stderr, "host check SEED COUNT | host measure TIMES | host single EVENT TIMES | host list | host spans TIMES MOST | host list_spans\n");
         return 2;
     }
     return 0;

@@ -285,8 +285,41 @@ uint32_t dmm32_port_c_pins(struct dmm32_board *board, uint16_t *memory, size_t m
 /* One tick of the 10 MHz clock. Done. */
 uint32_t dmm32_tick(struct dmm32_board *board, uint16_t *memory, size_t memory_length, uint8_t *eeprom, size_t eeprom_length);
 
+/* What came of many ticks: the answer as of any event, and how many ticks were done, 0 where they are refused. */
+struct dmm32_advanced {
+    uint32_t answer;
+    uint32_t done;
+};
+
+/*
+ * Ticks of the 10 MHz clock, one after another, at most `ticks`: it stops after the first with which the host has something to do, that is, one in which
+ * a conversion has begun (converter.converting was 0 and is 1) or a request flag has gone up (it was 0 and is 1; of the three a tick raises TINT alone).
+ * The record is that of `done` calls of dmm32_tick; both memories stay as they are. Done, or refusal 2 or 1 as of a tick, also with ticks 0.
+ */
+struct dmm32_advanced dmm32_advance(struct dmm32_board *board, uint16_t *memory, size_t memory_length, uint8_t *eeprom, size_t eeprom_length, uint32_t ticks);
+
+/*
+ * After how many ticks, `most` at the utmost, the next comes with which the host has something to do, if no other event comes before it: `done` of
+ * dmm32_advance with ticks most; 0 where that is refused. The record goes by value, and nothing changes. Where no tick can ever act it is most, at once.
+ */
+uint32_t dmm32_ticks_until(struct dmm32_board board, const uint16_t *memory, size_t memory_length, const uint8_t *eeprom, size_t eeprom_length, uint32_t most);
+
 /* The calibration transfer that runs ends. Done, or refusal 10. */
 uint32_t dmm32_transfer_end(struct dmm32_board *board, uint16_t *memory, size_t memory_length, uint8_t *eeprom, size_t eeprom_length);
+
+/*
+ * ---- how a host keeps time
+ *
+ * The board has no clock of its own. The host knows how many ticks of its 10 MHz clock are due since it last advanced the board, and does with them:
+ *   1. Before an access of the guest, and before any other event, it advances the board to now: dmm32_advance with the ticks that are due, and again with
+ *      the rest while `done` is less than these, since a call stops where there is something to do.
+ *   2. After each call it acts on what has come: where a conversion has begun, it works out when that one ends, and delivers dmm32_conversion_end when
+ *      the board's time is there; where a request flag has gone up, it raises the interrupt.
+ *   3. Then it delivers the event, and acts on what that has begun or raised in the same way.
+ *   4. It asks dmm32_ticks_until how far the next such tick is, and sets a timer by the answer, or by the end of the conversion in progress where that
+ *      comes sooner. When the timer fires it begins at 1. The board needs no other care: a late timer delays what the guest sees, and the board's own
+ *      time stays exact.
+ */
 
 /*
  * ---- the collector: it stops, sets and starts a board, empties its sample memory and hands the samples over

@@ -1,5 +1,6 @@
 #!/usr/bin/env python3
-"""README as it is written: the session's table is typed in and must be answered as it says, the C host is compiled, linked and run and must print what it says.
+"""README as it is written: the session's table is typed in and must be answered as it says, the C host is compiled, linked and run and must print what it says, and so are the
+lines that keep time, over a second in which counters 1 and 2 have counts of 1,000: OUT1 falls every 1,000 ticks, OUT2 at the 1,000,000th tick and every 1,000,000 from there.
 
     readme.py SESSION LIBRARY     the session program, the static library of cowriestep
 """
@@ -36,10 +37,36 @@ if platform.machine() != 'x86_64' and not shutil.which('x86_64-linux-gnu-gcc'):
 text = section('A C host')
 code = '\n'.join(line[4:] for line in text.split('\nWith these lines')[0].splitlines())
 prints = re.search(r'this prints `([^`]*)`', text).group(1)
-with tempfile.TemporaryDirectory() as room:
-    host = os.path.join(room, 'host')
-    with open(host + '.c', 'w') as out:
-        out.write(code)
-    subprocess.run([os.environ.get('CC', 'cc'), '-Wall', '-Wextra', '-Werror', '-Iinclude', host + '.c', library, '-o', host], check=True)
-    told('the C host', prints + '\n', subprocess.run([host], capture_output=True, text=True, check=True).stdout)
-print(f'tests/readme.py: {len(rows)} lines of a session and the C host do as README says')
+
+
+def printed(code):
+    """What a C program prints that is linked with the library."""
+    with tempfile.TemporaryDirectory() as room:
+        host = os.path.join(room, 'host')
+        with open(host + '.c', 'w') as out:
+            out.write(code)
+        subprocess.run([os.environ.get('CC', 'cc'), '-Wall', '-Wextra', '-Werror', '-Iinclude', host + '.c', library, '-o', host], check=True)
+        return subprocess.run([host], capture_output=True, text=True, check=True).stdout
+
+
+told('the C host', prints + '\n', printed(code))
+keeping = '\n'.join(line[4:] for line in section('Keeping time').splitlines() if line.startswith('    '))
+told('keeping time', '10 conversions, 10 samples, tick 10000100\n', printed(f'''#include "cowriestep.h"
+#include <stdio.h>
+static int conversions;
+static int16_t code_of(unsigned channel) {{ conversions++; return (int16_t)channel; }}
+static void raise_interrupt(void) {{ }}
+{keeping}
+int main(void) {{
+    static uint16_t memory[512];
+    static uint8_t eeprom[128];
+    static const uint8_t writes[][2] = {{{{8, 0}}, {{15, 0x74}}, {{13, 0xE8}}, {{13, 3}}, {{15, 0xB4}}, {{14, 0xE8}}, {{14, 3}}, {{9, 3}}}};
+    struct dmm32_board board = dmm32_fresh(0, 0);
+    uint64_t now = 0, end_at = UINT64_MAX;
+    for (unsigned i = 0; i < sizeof writes / sizeof writes[0]; i++) dmm32_write_byte(&board, memory, 512, eeprom, 128, writes[i][0], writes[i][1]);
+    advance_to(&board, memory, eeprom, &now, 10000100, &end_at);
+    printf("%d conversions, %d samples, tick %llu\\n", conversions, board.fifo.held, (unsigned long long)now);
+    return 0;
+}}
+'''))
+print(f'tests/readme.py: {len(rows)} lines of a session, the C host and the lines that keep time do as README says')

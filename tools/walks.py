@@ -1,18 +1,18 @@
 #!/usr/bin/env python3
 """Writes the proofs of the thin functions over a lent board, in crates/lent and crates/cowriestep: for each, proofs/NAME/Proof.antt, and for each of
-the two crates proofs/Lending.antt, which they share. Run it in the repository's root after a change to these functions or to the record. It reads the
+the two crates proofs/Lending.antt, which those of an event share, and proofs/Advancing.antt, which that of many ticks has. Run it in the repository's root after a change to these functions or to the record. It reads the
 functions, their parameters, callees and events, and where the answer lies behind the record, from the crates' sources; the events' cases and what a step
 does are not in it.
 
 All these functions have one shape. NAME(board: &mut Board, memory: &mut [u16], eeprom: &mut [u8], parameters..) calls CALLEE(*board, memory, eeprom, ..),
-which makes the step by value, and stores what comes back. It passes its parameters on, after a variant of an enum or not. Those of cowriestep test the
+which makes the step, or many ticks, by value, and stores what comes back. It passes its parameters on, after a variant of an enum or not. Those of cowriestep test the
 lengths of the memories first and answer refusal 2 at once. A function's locals, in order:
 
     0 the answer   1 board   2 memory   3 eeprom   the parameters   what CALLEE returns
     where lengths are tested: memory's length   whether it is wrong   eeprom's length   whether it is wrong   whether one is
     the record's copy   memory's pointer and slice   eeprom's pointer and slice   the variant
 
-The walk follows the statements and cites Lending.antt from the call on. Numbers in it are places in the list of what is owned at that point. The texts
+The walk follows the statements and cites Lending.antt or Advancing.antt from the call on. Numbers in it are places in the list of what is owned at that point. The texts
 are walk/proof.txt and walk/lending.txt; here is what is filled in.
 """
 import os
@@ -22,26 +22,35 @@ from walk import source, terms
 from walk.terms import chained, listed, loaded, local, paired
 from walk.text import filled
 
-# A crate of thin functions: what their callees return, which field of it is the answer, and what they promise of it.
-Family = namedtuple('Family', 'crate outcome answer promise')
+# Thin functions of a crate that share a file: the record that their contracts name, what their callees return, which field of it is the answer, and what they
+# promise of it and of the memories, by `ev` of a type.
+Family = namedtuple('Family', 'crate lending contract outcome answer promise event memory eeprom')
+LENT = '(x .now) (m .now) (e .now) ev'
+EVENT = ('Event', f'memoryAfter {LENT}', f'eepromAfter {LENT}')
+TICKS = ('ℕ', 'm .now', 'e .now')
 FAMILIES = [
-    Family('lent', 'Outcome', 'answer', 'stepOf (x .now) (m .now) (e .now) ev'),
-    Family('cowriestep', 'Numbered', 'number', 'numberedOf (stepOf (x .now) (m .now) (e .now) ev)'),
+    Family('lent', 'Lending', 'Stepped', 'Outcome', 'answer', f'stepOf {LENT}', *EVENT),
+    Family('lent', 'Advancing', 'Moved', 'Advanced', 'progress', f'advancedOf {LENT}', *TICKS),
+    Family('cowriestep', 'Lending', 'Stepped', 'Numbered', 'number', f'numberedOf (stepOf {LENT})', *EVENT),
+    Family('cowriestep', 'Advancing', 'Moved', 'AdvancedNumbered', 'progress', f'advancedNumbered (advancedOf {LENT})', *TICKS),
 ]
 
 
 def of_family(family, types):
     """What both texts say of a crate of thin functions."""
     kind, at = types.field(family.outcome, family.answer)
-    enum = types.is_enum(kind)
-    answer = terms.Declared(kind, enum, 'N', 'N′') if enum else terms.of(kind, types)
-    value = f'aval (r .{family.answer})' if enum else 'aval r'
+    made = kind not in source.SCALARS
+    answer = terms.Declared(kind, types.is_enum(kind), 'N', 'N′') if made else terms.of(kind, types)
+    value = f'aval (r .{family.answer})' if made else 'aval r'
+    name = kind if made else 'Answer'
     return dict(
-        {name: 'Rattle·' + types.declared(name).crate for name in ('Board', 'Event', 'Answer')},
-        crate=family.crate, promise=family.promise, outcome=family.outcome, outcome_crate='Rattle·' + types.declared(family.outcome).crate,
-        answer=family.answer, answer_at=at, answer_is_an_enum=enum, answer_row=answer.row, answer_makes=answer.makes, answer_value=f'({value})',
-        answer_type='N′.mir' if enum else 'numTy', answer_local='N′.mir' if enum else 'S.numTy', answer_is=f'Is {answer.row} (r .{family.answer}) ({value} ∷ [])',
-        answer_typed=f'EL.lawful {answer.both} 𝓤 H A W tt .typed (r .{family.answer}) _ is .0' if enum else '(tt, record { fits = is .1 })')
+        {name: 'Rattle·' + types.declared(name).crate for name in ('Board', 'Event')},
+        crate=family.crate, lending=family.lending, promise=family.promise, outcome=family.outcome, outcome_crate='Rattle·' + types.declared(family.outcome).crate,
+        event_type=family.event, memory_after=family.memory, eeprom_after=family.eeprom,
+        answer=family.answer, answer_at=at, answer_is_declared=made, answer_name=name, answer_crate='Rattle·' + types.declared(name).crate,
+        answer_laws=answer.laws if made else '', answer_row=answer.row, answer_makes=answer.makes, answer_value=f'({value})',
+        answer_type='N′.mir' if made else 'numTy', answer_local='N′.mir' if made else 'S.numTy', answer_is=f'Is {answer.row} (r .{family.answer}) ({value} ∷ [])',
+        answer_typed=f'{answer.laws}.lawful {answer.both} 𝓤 H A W {answer.tag}.typed (r .{family.answer}) _ is .0' if made else '(tt, record { fits = is .1 })')
 
 
 def of_call(function, types):
@@ -150,9 +159,9 @@ def write(path, text):
 def main():
     types = source.Types()
     for family in FAMILIES:
-        proofs, functions = f'crates/{family.crate}/proofs', source.thin_functions(family.crate)
+        proofs, functions = f'crates/{family.crate}/proofs', source.thin_functions(family.crate, family.contract)
         said = dict(of_family(family, types), tested=any(function.tested for function in functions))
-        write(f'{proofs}/Lending.antt', filled('lending.txt', said))
+        write(f'{proofs}/{family.lending}.antt', filled('lending.txt', said))
         for function in functions:
             own = dict(name=function.name, kebab=function.name.replace('_', '-'), tested=function.tested)
             for of in (of_call, of_parameters, of_locals):

@@ -1,6 +1,6 @@
 #!/usr/bin/env python3
-"""Writes the proofs of the functions that make a step, one way out after the other: crates/CRATE/proofs/FUNCTION/Proof.antt for each file
-tools/ways/CRATE.FUNCTION.txt. Run it in the repository's root after a change to such a function or to the laws that its proof cites; antt judges what it
+"""Writes the proofs of the functions that make a step, and of those that make many ticks, one way out after the other: crates/CRATE/proofs/FUNCTION/Proof.antt for
+each file tools/ways/CRATE.FUNCTION.txt; a function of a module is MODULE.FUNCTION there, and MODULE/FUNCTION in the path. Run it in the repository's root after a change to such a function or to the laws that its proof cites; antt judges what it
 writes.
 
     tools/ways.py                      all of them
@@ -9,6 +9,11 @@ writes.
 A line of the file answers one of the facts that the function's proof needs, by the need's own name:
 
     NEED: TERM
+
+A function with a loop has two lines more, the loop's invariant and the number that falls, over the loop's values:
+
+    Inv-loop VALUES: TERM
+    μ-loop VALUES: TERM
 
 In the term, @thing is the way to what is known of `thing` at that point of the code (`@find .ensures`: what the call of `find` promises), @entry that to
 what is known where the function begins (`@entry .args .board`), LENT is the record and both memories there, and OPENED says that both checks before the event's own
@@ -38,7 +43,12 @@ def stub(crate, function):
 
 
 def kebab(function):
-    return function.replace('_', '-')
+    """The function's own name, as proofs write it."""
+    return function.split('.')[-1].replace('_', '-')
+
+
+def folder_of(function):
+    return function.replace('.', '/')
 
 
 def known(lts, need):
@@ -62,37 +72,44 @@ def proof(crate, function, folder):
     lines = [line for line in open(f'tools/ways/{crate}.{function}.txt', encoding='utf-8').read().split('\n') if line and not line.startswith('#')]
     uses = [line for line in lines if line.startswith('use ')]
     unfolding = [line for line in lines if line.startswith('unfolding ')]
-    terms = dict(line.split(': ', 1) for line in lines if not line.startswith(('use ', 'unfolding ')))
-    lts = open(f'{folder}/{function}/Lts.antt', encoding='utf-8').read()
-    tie = open(f'{folder}/{function}/Tie.antt', encoding='utf-8').read()
-    declared, answers = [], []
-    for need in re.findall(r'^abbrev pub Need-(\S+) : Type 0', tie, re.M):
+    loop = [line for line in lines if line.startswith(('Inv-', 'μ-'))]
+    terms = dict(line.split(': ', 1) for line in lines if not line.startswith(('use ', 'unfolding ', 'Inv-', 'μ-')))
+    lts = open(f'{folder}/{folder_of(function)}/Lts.antt', encoding='utf-8').read()
+    tie = open(f'{folder}/{folder_of(function)}/Tie.antt', encoding='utf-8').read()
+    declared, answers, over = [], [], ''
+    for line in loop:
+        values, term = line.split(': ', 1)
+        name = values.split()[0]
+        declared += ['', f'abbrev {name} : tie.{name.replace("Inv-", "InvT-").replace("μ-", "MeasureT-")}', f'{values} = {term}']
+        answers.append(f'    {name}')
+        over += f' {name}'
+    for need in re.findall(r'^abbrev pub Need-(\S+) : .*Type 0', tie, re.M):
         given = 'c κs' if '-requires' in need else 'c'
         if need not in terms:
             answers.append(f'    (λ {given}. search needs)')
             continue
         answers.append(f'    {need}')
         term = answered(terms.pop(need), known(lts, need))
-        declared += ['', f'{need} : tie.Need-{need}'] + (unfolding if need.startswith('returns') else []) + [f'{need} {given} = {term}']
+        declared += ['', f'{need} : tie.Need-{need}{over}'] + (unfolding if need.startswith('returns') else []) + [f'{need} {given} = {term}']
     if terms:
         sys.exit(f'tools/ways.py: {crate}::{function} has no need {", ".join(terms)}')
     own = f'Rattle.{crate}.proofs'
     return [
-        f'-- `{crate}::{function}` meets its contract, by a law for each way out. Assumes nothing. Written by tools/ways.py.',
-        'use borrow.Author.Needs.{needs}', *uses, 'use Rattle.board_step.specs.Ways as ways',
+        f'-- `{crate}::{function.replace(".", "::")}` meets its contract, by a law for each way out. Assumes nothing. Written by tools/ways.py.',
+        'use borrow.Author.Needs.{needs}', *uses, *(['use Rattle.board_step.specs.Ways as ways'] if any('ways.' in line for line in declared) else []),
         f'use {own}.{function}.Statement.{{statement}}', f'use {own}.{function}.Tie as tie', *declared, '',
         f'pub {kebab(function)}-spec : {{M : Type 1}} → statement M', f'{kebab(function)}-spec =', '    let met =', '    tie.spec', *answers, '    in tie.close met']
 
 
 def write(crate, function, lines):
-    path = f'crates/{crate}/proofs/{function}/Proof.antt'
+    path = f'crates/{crate}/proofs/{folder_of(function)}/Proof.antt'
     os.makedirs(os.path.dirname(path), exist_ok=True)
     with open(path, 'w', encoding='utf-8') as out:
         out.write('\n'.join(lines) + '\n')
 
 
 def main(words):
-    files = sorted(name[:-len('.txt')].split('.') for name in os.listdir('tools/ways'))
+    files = sorted(name[:-len('.txt')].split('.', 1) for name in os.listdir('tools/ways'))
     wanted = [(c, f) for c, f in files if not words or c == words[0] and f in (words[1:] or [f])]
     for crate in sorted({c for c, _ in wanted}):
         functions = [f for c, f in wanted if c == crate]

@@ -67,6 +67,8 @@ OFFSET(dmm32_board, calibration.value, 97);
 OFFSET(dmm32_board, calibration.trim, 102);
 OFFSET(dmm32_board, pins.din, 110);
 OFFSET(dmm32_board, wiring.inputs, 112);
+SIZE(dmm32_advanced, 8);
+OFFSET(dmm32_advanced, done, 4);
 SIZE(dmm32_settings, 8);
 SIZE(dmm32_collector, 14);
 SIZE(dmm32_start, 16);

@@ -12,7 +12,7 @@ from collections import namedtuple
 Declared = namedtuple('Declared', 'crate is_enum variants')
 # A variant of an enum whose variants hold nothing.
 Variant = namedtuple('Variant', 'type name')
-# A function over a lent board: what it calls (a path), a variant that it passes on before its own parameters (or None), the event of its contract (a term)
+# A function over a lent board: what it calls (a path), a variant that it passes on before its own parameters (or None), the event of its contract, or the number of ticks (a term)
 # with the variants that this names, and whether it tests the lengths first.
 Thin = namedtuple('Thin', 'name parameters callee built event named tested')
 
@@ -98,28 +98,28 @@ def length(array):
     return int(array[1:-1].split(';')[1])
 
 
-CONTRACT = r'Stepped \w+ \(now \(board \.entry\)\) \(now \(memory \.entry\)\) \(now \(eeprom \.entry\)\) (.*) r \(now \(board \.exit\)\)'
+CONTRACT = r'CONTRACT \w+ \(now \(board \.entry\)\) \(now \(memory \.entry\)\) \(now \(eeprom \.entry\)\) (.*) r \(now \(board \.exit\)\)'
 CALL = r'let out = ([\w:]+)\(\s*\*board,\s*memory,\s*eeprom,?\s*(.*?),?\s*\);'
 TEST = 'if (memory.len() != 512) | (eeprom.len() != 128) { return 0x62000000; }'
 
 
-def thin_functions(crate):
-    """The functions of a crate that call `CALLEE(*board, memory, eeprom, ..)` over a lent board, in the order written."""
+def thin_functions(crate, contract):
+    """The functions of a crate that call `CALLEE(*board, memory, eeprom, ..)` over a lent board and whose contract is this record, in the order written."""
     found = []
     for text in texts(crate):
         for name, parameters, body in re.findall(r'^pub (?:extern "C" )?fn (\w+)\((.*?)\) -> \w+\n(.*?)^\}', text, re.M | re.S):
             call = re.search(CALL, body, re.S)
-            if call:
-                found.append(thin(name, fields_in(parameters), call.group(1), call.group(2), body))
+            if call and contract + ' ' in body:
+                found.append(thin(name, fields_in(parameters), call.group(1), call.group(2), body, contract))
     if not found:
         raise SystemExit(f'tools/walks.py: no function of {crate} calls another over a lent board')
     return found
 
 
-def thin(name, parameters, callee, passed, body):
+def thin(name, parameters, callee, passed, body, contract):
     """The function that passes these arguments on beside what is lent."""
     lent, own = parameters[:3], parameters[3:]
-    event = re.search(CONTRACT, body)
+    event = re.search(CONTRACT.replace('CONTRACT', contract), body)
     built = re.match(r'(\w+)::(\w+)(?:, |$)', passed)
     rest = passed[built.end():] if built else passed
     if lent != LENT or not event or [word for word in rest.split(', ') if word] != [p for p, _ in own]:

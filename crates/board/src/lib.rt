@@ -1,8 +1,12 @@
 // The board: one record by value, two lent memories, one event at a time. `step` answers every event, from whatever record, memories and
-// numbers come in; each kind of event has a step of its own.
+// numbers come in; each kind of event has a step of its own; `advance` makes many ticks in one call.
 ghost use mathlib.Core.Path.{_≡_};
 ghost use Rattle.machine.specs.Fresh.{freshBoard};
 ghost use Rattle.board_step.specs.Step.{stepOf, memoryAfter, eepromAfter};
+pub use board_advance::Advanced;
+pub use board_advance::Progress;
+pub use board_advance::advance;
+pub use board_advance::ticks_until;
 pub use board_reads::read_byte;
 pub use board_reads::read_word;
 pub use board_refusal::is_working;

@@ -5,3 +5,4 @@ pub mod Lent
 pub mod Sampled
 pub mod Passed
 pub mod Ways
+pub mod Ticked

@@ -2,13 +2,15 @@
 -- functions that make a step, over plain values.
 use mathlib.Core.Path.{_≡_, refl, sym, _∙_}
 use mathlib.Core.Bool.{Bool, true, false, not}
-use mathlib.Core.List.{List}
+use mathlib.Core.List.{List, _∷_}
+use native.Mathlib.Omega.{arith}
 use Prim.Native.Nat.{ℕ}
 use lib.ListN.{length}
 use lib.Dec.{eqb}
 use Rattle.base.specs.Choice.{if_then_else_}
-use Rattle.base.specs.Checks.{refusal}
+use Rattle.base.specs.Checks.{_refuses_, refusal}
 use Rattle.base.specs.Laws.{not-not, not-true}
+use Rattle.base.specs.Unrefused.{passes}
 use Rattle.fifo.specs.Queue.{queue, layout}
 use Rattle.machine.specs.declared.Board.{Board}
 use Rattle.board_stores.specs.Stores.{wrongLengths}
@@ -32,6 +34,13 @@ pub record Opened (b : Board) (m e : List ℕ) : Type 0 where
 -- from the two tests that the code makes
 pub opened : {b : Board} {m e : List ℕ} {w : Bool} → wrongLengths m e ≡ false → w ≡ workingBoard b m → not w ≡ false → Opened b m e
 opened {w = w} l k h = record { long = l; working = sym k ∙ not-not w h }
+
+-- from a step that is not refused
+pub opens : (b : Board) (m e : List ℕ) (ev : Event) → refusal (checks b m e ev) ≡ 0 → Opened b m e
+unfolding checks
+opens b m e ev h =
+    let p = passes (wrongLengths m e) 2 (not (workingBoard b m) refuses 1 ∷ eventChecks b ev) (omega arith) h in
+    record { long = p .0; working = not-not _ (passes (not (workingBoard b m)) 1 (eventChecks b ev) (omega arith) (p .1) .0) }
 
 pub works : {b : Board} {m : List ℕ} {w : Bool} → w ≡ workingBoard b m → not w ≡ false → WorkingBoard b m
 works {b} {m} {w = w} k h = board-of b m (sym k ∙ not-not w h)

@@ -2,55 +2,24 @@
 -- counter after the pulse. Assumes nothing.
 use mathlib.Core.Path.{_≡_, refl, sym, ap, ap₂, _∙_}
 use mathlib.Core.Bool.{Bool, true, false, not, _&&_, _||_}
-use Prim.Native.Nat.{ℕ, _/_, _%_}
+use Prim.Native.Nat.{ℕ}
 use native.Mathlib.Omega.{arith}
 use lib.Dec.{eqb}
 use mir.Val.{boolByte}
 use borrow.Author.Tests.{eqb-true, eqb-false, eq-eqb, ne-eqb, not-true, not-false}
-use Rattle.base.specs.Choice.{if_then_else_}
 use Rattle.base.specs.Flags.{on, flag}
 use Rattle.base.specs.Laws.{never, both}
-use Rattle.counting_modes.specs.Control.{command, formatOf, setupBy, setupOf}
+use Rattle.counting_modes.specs.Bits.{modeBy, rate}
 use Rattle.counting_modes.specs.Modes.{loadOut}
 use Rattle.counting_modes.specs.declared.Mode.{Mode}
 use Rattle.counting_modes.specs.declared.Mode.the-variants.{TerminalCount, RateGenerator}
-use Rattle.counting_modes.specs.declared.Format.{Format}
-use Rattle.counting_modes.specs.declared.Command.the-variants.{LatchCount, Program, NotModelled}
 use Rattle.counting_modes.specs.declared.Setup.{Setup}
-use Rattle.counting_modes.specs.declared.Setup.the-variants.{Unprogrammed, Programmed}
 use Rattle.counting_element.specs.Element.{down, load, counted, countedBy, pulseLoads, pulseCounts, pulseTaken}
 use Rattle.counting_element.specs.declared.Count.{Count}
 use Rattle.counting.specs.declared.Counter.{Counter}
 use Rattle.counting.specs.Counter.{pulsedAs, pulsed}
+use Rattle.counting.specs.Setups.{sets-nothing, sets-mode}
 use Rattle.counting.specs.Working.{Working}
-
--- ---- the mode
-abbrev modeBy : Bool → Mode
-modeBy true = RateGenerator
-modeBy false = TerminalCount
-
-abbrev rate : ℕ → Bool
-rate w = eqb (w / 4 % 2) 1
-
-mode-bit : (w : ℕ) (f : Format) (m : Mode) → setupOf w ≡ Programmed f m → m ≡ modeBy (rate w)
-unfolding setupOf command
-mode-bit w f m = go (eqb (w / 16 % 4) 0) (eqb (w / 1 % 2) 1) (eqb (w / 2 % 8) 0) (eqb (w / 2 % 8 % 4) 2) refl refl
-  where
-    go : (a b t r : Bool) → eqb (w / 2 % 8) 0 ≡ t → eqb (w / 2 % 8 % 4) 2 ≡ r
-        → setupBy (if a then LatchCount else if b then NotModelled else if t then Program (formatOf (w / 16 % 4)) TerminalCount
-        else if r then Program (formatOf (w / 16 % 4)) RateGenerator else NotModelled) ≡ Programmed f m
-        → m ≡ modeBy (rate w)
-    go true b t r p q e = cc
-    go false true t r p q e = cc
-    go false false true r p q e =
-        let z : w / 2 % 8 ≡ 0 = eqb-true (w / 2 % 8) 0 p in
-        let n : rate w ≡ false = ne-eqb (w / 4 % 2) 1 (λ o. omega arith) in
-        rw n (cc)
-    go false false false true p q e =
-        let z : w / 2 % 8 % 4 ≡ 2 = eqb-true (w / 2 % 8 % 4) 2 q in
-        let n : rate w ≡ true = eq-eqb (w / 4 % 2) 1 (omega arith) in
-        rw n (cc)
-    go false false false false p q e = cc
 
 -- the counter with another count, the flip-flop reset
 abbrev withCount : Counter → Count → Counter
@@ -61,16 +30,11 @@ taken c gate r = pulseTaken (modeBy r) gate (on (c .trigger)) (on (c .bus .halfw
 
 in-mode : (c : Counter) (gate : Bool) → Working c → (c .control ≡ 0 → ⊥) → pulsed c gate ≡ withCount c (taken c gate (rate (c .control)))
 unfolding pulsed
-in-mode c gate w z = go (setupOf (c .control)) refl
-  where
-    go : (s : Setup) → setupOf (c .control) ≡ s → pulsedAs s c gate ≡ withCount c (taken c gate (rate (c .control)))
-    go Unprogrammed e = absurd (z ((rw e at (w .facts)) .0))
-    go (Programmed f m) e =
-        ap (λ (n : Mode). withCount c (pulseTaken n gate (on (c .trigger)) (on (c .bus .halfwritten)) (c .count))) (mode-bit (c .control) f m e)
+in-mode c gate w z = sets-mode (λ (s : Setup). pulsedAs s c gate ≡ withCount c (taken c gate (rate (c .control)))) c w z (λ f. refl)
 
 pub unprogrammed : (c : Counter) (gate : Bool) → c .control ≡ 0 → c ≡ pulsed c gate
-unfolding pulsed setupOf command
-unprogrammed c gate h = sym (ap (λ (w : ℕ). pulsedAs (setupOf w) c gate) h)
+unfolding pulsed
+unprogrammed c gate h = sym (ap (λ (s : Setup). pulsedAs s c gate) (sets-nothing (c .control) h))
 
 -- ---- the count after a pulse that loads, one that counts, and one that does neither
 module _ (m : Mode) (gate trigger half : Bool) (k : Count) where

@@ -9,7 +9,8 @@ use Rattle.counting_modes.specs.declared.Setup.{Setup}
 use Rattle.counting_modes.specs.declared.Setup.the-variants.{Unprogrammed, Programmed}
 use Rattle.counting.specs.declared.Counter.{Counter}
 
-stays : (o : Bool) → o && not o ≡ false
+-- a level that stays does not fall
+pub stays : (o : Bool) → o && not o ≡ false
 stays true = refl
 stays false = refl
 

@@ -5,3 +5,4 @@ pub mod Kept
 pub mod Edges
 pub mod Marked
 pub mod Still
+pub mod Setups

@@ -23,7 +23,7 @@ no-drop true false = refl
 no-drop false g = refl
 
 -- a flag that nothing is added to
-same-flag : (n : ℕ) → n ≤ 1 → flag (on n || false) ≡ n
+pub same-flag : (n : ℕ) → n ≤ 1 → flag (on n || false) ≡ n
 same-flag n h = by (on n) (flag-on n h)
   where
     by : (t : Bool) → flag t ≡ n → flag (t || false) ≡ n

@@ -172,7 +172,7 @@ module _ {M : Type 1} (𝓤 : URA M) (H : Heap 𝓤) (A : Atoms 𝓤) (W : Given
       use1 W (‵ (fres (y .name) (codedHoleys R .code (heres R (y .now))))) (W .names .obs-res (y .name) (codedHoleys R .code (heres R (y .now)))) $
       use1 W (‵ (finally R (y .name) (y .now))) (res-finally 𝓤 H A W ℓ κ R (y .name) (y .now)) $ keep ! (0 ∷ []) $ done !
 
--- what is lent: the board x at κ, the memories m and e at κm and κe; and the event
+-- what is lent: the board x at κ, the memories m and e at κm and κe; and the event, or the number of ticks
 module _ {M : Type 1} (𝓤 : URA M) (H : Heap 𝓤) (A : Atoms 𝓤) (W : Given 𝓤 H A) (κ κm κe : Lft) (q qm qe : Share) (x : RefT Board) (m : RefT (List ℕ)) (e : RefT (List ℕ)) (ev : Event) where
   abbrev pub sm : Val
   sm = sliceVal (m .ptr) (length (m .now))

@@ -1,11 +1,13 @@
 // What C and Rust hosts link (include/cowriestep.h): the lent board, fresh boards, the collector and the formulas, on plain numbers and records of
 // numbers. Here are the events: each answers memories of the wrong lengths at once (refusal 2), or calls the function of its kind with the record by
-// value and stores what comes back.
+// value and stores what comes back; `dmm32_advance` calls that of many ticks.
 ghost use Rattle.board_step.specs.Lent.{Stepped};
-ghost use Rattle.numbers.specs.Packed.{answerNumber};
+ghost use Rattle.board_advance.specs.Lent.{Moved};
+ghost use Rattle.numbers.specs.Packed.{answerNumber, progressNumbered};
 use board::Board;
 use board::Event;
 use board::Port;
+use numbers::ProgressNumbered;
 
 pub mod others; // fresh boards, the collector and whole scans
 pub mod formulas; // codes as volts, volts as output codes
@@ -184,6 +186,21 @@ pub extern "C" fn dmm32_tick(board: &mut Board, memory: &mut [u16], eeprom: &mut
     let out = numbers::stepping::tick(*board, memory, eeprom);
     *board = out.board;
     out.number
+}
+
+// Ticks of the 10 MHz clock, `ticks` at the utmost, as far as the first with which the host has something to do.
+#[no_mangle]
+pub extern "C" fn dmm32_advance(
+    board: &mut Board,
+    memory: &mut [u16],
+    eeprom: &mut [u8],
+    ticks: u32,
+) -> ProgressNumbered
+    ensures { λ r. ⌜ Moved progressNumbered (now (board .entry)) (now (memory .entry)) (now (eeprom .entry)) ticks r (now (board .exit)) (now (memory .exit)) (now (eeprom .exit)) ⌝ }
+{
+    let out = numbers::time::advance(*board, memory, eeprom, ticks);
+    *board = out.board;
+    out.progress
 }
 
 // The calibration transfer that runs ends.

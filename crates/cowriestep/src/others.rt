@@ -10,6 +10,7 @@ ghost use mathlib.Core.Path.{_≡_};
 ghost use lib.ListN.{length};
 ghost use Rattle.board_stores.specs.Stores.{freshMemory, freshEeprom, storesAnswer};
 ghost use Rattle.board_refusal.specs.Working.{workingBoard};
+ghost use Rattle.board_advance.specs.Advance.{advancedOf};
 ghost use Rattle.collector_records.specs.Records.{started};
 ghost use Rattle.collector_phases.specs.Accesses.{accessOf};
 ghost use Rattle.collector_replies.specs.Reply.{replied};
@@ -43,6 +44,14 @@ pub extern "C" fn dmm32_is_working(board: Board, memory: &[u16]) -> bool
     ensures { λ r. ⌜ r ≡ workingBoard board (now (memory .entry)) ⌝ }
 {
     board::is_working(board, memory)
+}
+
+// After how many ticks, `most` at the utmost, the next one comes with which the host has something to do: what dmm32_advance would have done.
+#[no_mangle]
+pub extern "C" fn dmm32_ticks_until(board: Board, memory: &[u16], eeprom: &[u8], most: u32) -> u32
+    ensures { λ r. ⌜ r ≡ advancedOf board (now (memory .entry)) (now (eeprom .entry)) most .progress .done ⌝ }
+{
+    board::ticks_until(board, memory, eeprom, most)
 }
 
 // A collector for these settings, or the refusal 14, 11, 12 or 13.

@@ -143,7 +143,7 @@ module _ {M : Type 1} {𝓤 : URA M} {H : Heap 𝓤} {A : Atoms 𝓤} {K : Type 
   pub recoded : K → {C : Calls 𝓤 H} {Λ : Loops 𝓤 H} {p : Post 𝓤 H} {b b′ : Code} → b ≡ b′ → Step K W Γ (runs C Λ E b′ p) Γ (runs C Λ E b p)
   recoded t {C} {Λ} {p} is = as-step (λ s. subst (λ (c : Code). Seq K W Γ (runs C Λ E c p)) (sym is) s)
 
--- what is lent: the board x at κ, the memories m and e at κm and κe; and the event
+-- what is lent: the board x at κ, the memories m and e at κm and κe; and the event, or the number of ticks
 module _ {M : Type 1} (𝓤 : URA M) (H : Heap 𝓤) (A : Atoms 𝓤) (W : Given 𝓤 H A) (κ κm κe : Lft) (q qm qe : Share) (x : RefT Board) (m : RefT (List ℕ)) (e : RefT (List ℕ)) (ev : Event) where
   abbrev pub sm : Val
   sm = sliceVal (m .ptr) (length (m .now))

@@ -1,2 +1,3 @@
 pub mod Tick
 pub mod Kept
+pub mod InPlace

@@ -5,7 +5,11 @@ use Rattle.events.specs.Answers.{refusalNumber, valueRead}
 use Rattle.events.specs.declared.Answer.{Answer}
 use Rattle.events.specs.declared.Answer.the-variants.{Done, Byte, Word, Refused}
 use Rattle.board_step.specs.declared.Outcome.{Outcome}
+use Rattle.board_advance.specs.declared.Progress.{Progress}
+use Rattle.board_advance.specs.declared.Advanced.{Advanced}
 use Rattle.numbers.specs.declared.Numbered.{Numbered}
+use Rattle.numbers.specs.declared.ProgressNumbered.{ProgressNumbered}
+use Rattle.numbers.specs.declared.AdvancedNumbered.{AdvancedNumbered}
 
 abbrev pub packed : ℕ → ℕ → ℕ → ℕ
 packed kind refusal value = kind * 0x20000000 + refusal % 32 * 0x1000000 + value
@@ -21,3 +25,10 @@ answerNumber a = packed (kindOf a) (refusalNumber a) (valueRead a)
 
 abbrev pub numberedOf : Outcome → Numbered
 numberedOf o = record { board = o .board; number = answerNumber (o .answer) }
+
+-- many ticks: the answer beside the number of those that were done
+abbrev pub progressNumbered : Progress → ProgressNumbered
+progressNumbered p = record { answer = answerNumber (p .answer); done = p .done }
+
+abbrev pub advancedNumbered : Advanced → AdvancedNumbered
+advancedNumbered a = record { board = a .board; progress = progressNumbered (a .progress) }

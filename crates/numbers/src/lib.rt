@@ -10,6 +10,7 @@ use board::Jumpers;
 use board::Outcome;
 
 pub mod stepping; // an event of each kind
+pub mod time; // many ticks
 pub mod collecting; // the collector, and whole scans
 
 // The record after an event, and its answer as one number.
@@ -17,6 +18,20 @@ pub mod collecting; // the collector, and whole scans
 pub struct Numbered {
     pub board: Board,
     pub number: u32,
+}
+
+// The answer to many ticks, and how many were done.
+#[repr(C)]
+pub struct ProgressNumbered {
+    pub answer: u32,
+    pub done: u32,
+}
+
+// The record after them, and what came of them.
+#[repr(C)]
+pub struct AdvancedNumbered {
+    pub board: Board,
+    pub progress: ProgressNumbered,
 }
 
 // An answer as one number: the kind in bits 31-29, the refusal in bits 28-24, the byte or word in bits 15-0.

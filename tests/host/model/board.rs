@@ -34,6 +34,7 @@ fn perform(board: &mut Board, memory: &mut [u16], eeprom: &mut [u8], event: &Eve
         Event::Latch { level } => board.latch_pin(level != 0),
         Event::PortPins { port, pins } => board.port_pins(port, pins),
         Event::Tick => board.tick(),
+        Event::Advance { ticks } => return Answer::Ticks(board.advance(ticks)),
         Event::TransferEnd => board.calibration.transfer_end(eeprom),
     }
     Answer::Done
@@ -61,7 +62,7 @@ fn refusal_of(board: &Board, event: &Event) -> Option<u8> {
         }
         Event::Din { lines } => when(lines > 15, refusal::DIN),
         Event::TransferEnd => when(!board.calibration.is_busy(), refusal::NO_TRANSFER),
-        Event::Latch { .. } | Event::PortPins { .. } | Event::Tick => None,
+        Event::Latch { .. } | Event::PortPins { .. } | Event::Tick | Event::Advance { .. } => None,
     }
 }
 

@@ -12,7 +12,7 @@ use crate::step::{Lent, Step, EEPROM_ROOM, MEMORY_ROOM};
 use crate::working::{EEPROM_LENGTH, MEMORY_LENGTH};
 
 /// The events by their functions.
-const EVENTS: [&str; 11] = [
+const EVENTS: [&str; 12] = [
     "write_byte",
     "read_byte",
     "read_word",
@@ -23,6 +23,7 @@ const EVENTS: [&str; 11] = [
     "port_b_pins",
     "port_c_pins",
     "tick",
+    "advance",
     "transfer_end",
 ];
 
@@ -91,6 +92,7 @@ impl Source {
             7 => Event::PortPins { port: Port::B, pins: byte },
             8 => Event::PortPins { port: Port::C, pins: byte },
             9 => Event::Tick,
+            10 => Event::Advance { ticks: self.random.below(300) },
             _ => Event::TransferEnd,
         }
     }

@@ -10,7 +10,7 @@ use crate::step::Step;
 use std::collections::BTreeMap;
 
 /// What a run must reach besides the refusals and the damaged fields.
-const MUST_BE_REACHED: [&str; 40] = [
+const MUST_BE_REACHED: [&str; 44] = [
     "512 held",
     "OVF set",
     "an end in mid-scan",
@@ -36,6 +36,7 @@ const MUST_BE_REACHED: [&str; 40] = [
     "gate falling with OUT low, mode 2",
     "conversion begun by software",
     "conversion begun by OUT2, a tick",
+    "conversion begun by OUT2, many ticks",
     "conversion begun by OUT2, a write",
     "conversion begun by DIN3",
     "conversion begun by a scan",
@@ -44,11 +45,14 @@ const MUST_BE_REACHED: [&str; 40] = [
     "ADINT set at a lost end",
     "DINT set",
     "TINT set by a tick",
+    "TINT set by many ticks",
     "TINT set by a pin",
     "TINT set by a write",
     "counter 0 clocked at 10 kHz",
     "counter 1 clocked at 100 kHz",
     "DACBUSY ends",
+    "DACBUSY ends in many ticks",
+    "many ticks, all done",
     "sample memory emptied by FIFORST",
     "sample memory emptied by a reset",
 ];
@@ -90,6 +94,11 @@ impl Coverage {
         self.reach_gates(&step.event, before, after);
         self.reach_requests(&step.event, before, after);
         self.reach_clocks(&step.event, before, after);
+        if let Event::Advance { ticks } = step.event {
+            let ended = before.outputs.busy > 1 && after.outputs.busy == 0;
+            self.reach("DACBUSY ends in many ticks", ended);
+            self.reach("many ticks, all done", ticks > 1 && outcome.answer == ticks);
+        }
     }
 
     fn reach_refused_commands(&mut self, event: &Event, before: &Board, refusal: u32) {
@@ -127,6 +136,7 @@ impl Coverage {
                 Event::WriteByte { offset: 0, .. } => "conversion begun by software",
                 Event::WriteByte { .. } => "conversion begun by OUT2, a write",
                 Event::Tick => "conversion begun by OUT2, a tick",
+                Event::Advance { .. } => "conversion begun by OUT2, many ticks",
                 Event::Din { .. } if internal => CANNOT_HAPPEN,
                 Event::Din { .. } => "conversion begun by DIN3",
                 _ => "conversion begun by a scan",
@@ -196,6 +206,7 @@ impl Coverage {
         self.reach("DINT set", was.dint < is.dint);
         let by = match event {
             Event::Tick => "TINT set by a tick",
+            Event::Advance { .. } => "TINT set by many ticks",
             Event::Din { .. } => "TINT set by a pin",
             _ => "TINT set by a write",
         };

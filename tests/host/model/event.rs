@@ -21,6 +21,8 @@ pub enum Event {
     Latch { level: u32 },
     PortPins { port: Port, pins: u8 },
     Tick,
+    /// Ticks up to the first with which the host has something to do.
+    Advance { ticks: u32 },
     TransferEnd,
 }
 
@@ -42,16 +44,20 @@ pub mod refusal {
 #[derive(Clone, Copy, Debug, PartialEq, Eq)]
 pub enum Answer {
     Done,
+    /// So many ticks were done.
+    Ticks(u16),
     Byte(u8),
     Word(u16),
     Refused(u8),
 }
 
 impl Answer {
-    /// The one number of the C header: kind in bits 31-29, refusal in 28-24, what was read in 15-0.
+    /// The one number of the C header: kind in bits 31-29, refusal in 28-24, what was read in 15-0;
+    /// there also the ticks that were done.
     pub fn number(self) -> u32 {
         match self {
             Answer::Done => 0,
+            Answer::Ticks(done) => u32::from(done),
             Answer::Byte(byte) => 1 << 29 | u32::from(byte),
             Answer::Word(word) => 2 << 29 | u32::from(word),
             Answer::Refused(number) => 3 << 29 | u32::from(number) << 24,
@@ -65,6 +71,7 @@ pub fn answer_text(number: u32) -> String {
     let whole = kind << 29 | refusal << 24 | read == number;
     match (whole, kind, refusal) {
         (true, 0, 0) if read == 0 => "done".to_string(),
+        (true, 0, 0) => format!("{read} ticks done"),
         (true, 1, 0) if read < 256 => format!("byte {read:02X}"),
         (true, 2, 0) => format!("word {read:04X}"),
         (true, 3, _) if read == 0 => format!("refused {refusal}"),
@@ -83,6 +90,7 @@ impl fmt::Display for Event {
             Event::Latch { level } => write!(out, "Latch {level}"),
             Event::PortPins { port, pins } => write!(out, "pins of port {port:?} {pins:02X}"),
             Event::Tick => write!(out, "tick"),
+            Event::Advance { ticks } => write!(out, "at most {ticks} ticks"),
             Event::TransferEnd => write!(out, "transfer end"),
         }
     }

@@ -41,6 +41,9 @@ impl Generator {
         self.left -= 1;
         let event = User { random: &mut self.random, board: &lent.board }.event(self.kind);
         let mut step = Step::plain(event);
+        if event == Event::Tick && self.random.once_in(8) {
+            step.event = Event::Advance { ticks: self.many_ticks() };
+        }
         match self.random.below(240) {
             0 => self.lend_wrong_lengths(&mut step),
             1..=4 => self.damage(&mut step, lent),
@@ -50,6 +53,12 @@ impl Generator {
             _ => {}
         }
         step
+    }
+
+    /// In place of one tick; now and then so many that each divider comes round.
+    fn many_ticks(&mut self) -> u32 {
+        let most = self.random.pick(&[1, 3, 30, 30, 250, 2500]);
+        self.random.below(most + 1)
     }
 
     /// An event that a board may refuse.

@@ -7,6 +7,12 @@ use crate::step::{Lent, Step, EEPROM_ROOM, MEMORY_ROOM};
 mod header {
     use crate::record::Board;
 
+    #[repr(C)]
+    pub struct Advanced {
+        pub answer: u32,
+        pub done: u32,
+    }
+
     macro_rules! events {
         ($($name:ident($($parameter:ident: $kind:ty),*);)+) => {
             extern "C" {
@@ -22,6 +28,22 @@ mod header {
                     memory: *const u16,
                     memory_length: usize,
                 ) -> bool;
+                pub fn dmm32_advance(
+                    board: *mut Board,
+                    memory: *mut u16,
+                    memory_length: usize,
+                    eeprom: *mut u8,
+                    eeprom_length: usize,
+                    ticks: u32,
+                ) -> Advanced;
+                pub fn dmm32_ticks_until(
+                    board: Board,
+                    memory: *const u16,
+                    memory_length: usize,
+                    eeprom: *const u8,
+                    eeprom_length: usize,
+                    most: u32,
+                ) -> u32;
                 $(pub fn $name(
                     board: *mut Board,
                     memory: *mut u16,
@@ -89,6 +111,21 @@ pub fn step(lent: &mut Lent, step: &Step) -> u32 {
             Event::PortPins { port: Port::B, pins } => call!(dmm32_port_b_pins, pins),
             Event::PortPins { port: Port::C, pins } => call!(dmm32_port_c_pins, pins),
             Event::Tick => call!(dmm32_tick),
+            Event::Advance { ticks } => {
+                let (memory_length, eeprom_length) = (step.memory_length, step.eeprom_length);
+                let until = header::dmm32_ticks_until(
+                    *board,
+                    memory,
+                    memory_length,
+                    eeprom,
+                    eeprom_length,
+                    ticks,
+                );
+                let advanced = call!(dmm32_advance, ticks);
+                // bit 23 is no answer's: where the two numbers of ticks differ, so do the answers
+                let differ = u32::from(until != advanced.done) << 23;
+                advanced.answer | advanced.done | differ
+            }
             Event::TransferEnd => call!(dmm32_transfer_end),
         }
     }

@@ -111,6 +111,20 @@ impl Board {
         self.outputs.busy = self.outputs.busy.saturating_sub(1);
     }
 
+    /// Ticks up to the first in which a conversion has begun or a request flag has gone up.
+    pub fn advance(&mut self, ticks: u32) -> u16 {
+        for done in 1..=ticks {
+            let (converting, flags) = (self.converter.converting, self.requests.flags);
+            self.tick();
+            let now = &self.requests.flags;
+            let rises = flags.adint < now.adint || flags.dint < now.dint || flags.tint < now.tint;
+            if rises || converting < self.converter.converting {
+                return done as u16;
+            }
+        }
+        ticks as u16
+    }
+
     /// DIN3-0 take new levels: gates, then counter 0's clock, then the trigger.
     pub fn din_pins(&mut self, lines: u8) {
         let falling = self.pins.din & !lines;

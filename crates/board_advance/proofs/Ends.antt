@@ -1,0 +1,83 @@
+-- The ways out of `advance` and `ticks_until`, over plain values. Assumes nothing.
+use Prim.Native.Nat.{ℕ, _+_, _-_}
+use native.Mathlib.Omega.{arith}
+use mathlib.Core.Path.{_≡_, refl, sym, ap, _∙_}
+use mathlib.Core.Bool.{Bool, true, false, not, _&&_, _||_}
+use mathlib.Core.List.{List}
+use Rattle.base.specs.Flags.{on}
+use Rattle.base.specs.Laws.{never, not-true}
+use Rattle.converter.specs.Channels.{triggered, clockTriggered}
+use Rattle.converter.specs.declared.channels.Converter.{Converter}
+use Rattle.requests.specs.Requests.{askedTimer}
+use Rattle.requests.specs.declared.Requests.{Requests}
+use Rattle.timer.specs.declared.Gates.{Gates}
+use Rattle.machine.specs.Parts.{withConverter, withRequests, withClocks, withOutputs}
+use Rattle.machine.specs.declared.Board.{Board}
+use Rattle.machine_clock.specs.Clock.{gates}
+use Rattle.strides.specs.Strides.{strideOf}
+use Rattle.strides.specs.declared.Stride.{Stride}
+use Rattle.board_stores.specs.Stores.{wrongLengths}
+use Rattle.board_refusal.specs.Working.{workingBoard}
+use Rattle.board_refusal.specs.Refusals.{eventChecks, checks}
+use Rattle.board_step.specs.Ways.{Opened}
+use Rattle.events.specs.declared.Answer.the-variants.{Refused, Done}
+use Rattle.board_advance.specs.Advance.{advancedFrom, advancedOf}
+use Rattle.board_advance.specs.Strided.{heeds0, heeds2, strideAt, shown, strided, unheeded}
+use Rattle.board_advance.specs.declared.Advanced.{Advanced}
+
+-- ---- the stride
+pub strides : (b : Board) (n : ℕ) {g : Gates} {h0 h2 : Bool} {s : Stride} → g ≡ gates b → h0 ≡ heeds0 b → h2 ≡ heeds2 b
+    → s ≡ strideOf (b .registers .counting) g h0 h2 n (b .clocks) → s ≡ strideAt b n
+unfolding strideAt
+strides b n g h0 h2 s = s ∙ rw (g, h0, h2)
+
+-- with CLKEN and CLKSEL a falling OUT2 is the trigger
+by-out2 : (v s u : Bool) → v && s && u ≡ v && (s && u || not s && false && not false)
+by-out2 true true true = refl
+by-out2 true true false = refl
+by-out2 true false u = refl
+by-out2 false s u = refl
+
+module _ (b : Board) (m e : List ℕ) (n : ℕ) where
+  -- ---- refused by 2, and by 1
+  pub wrong : wrongLengths m e ≡ true → record { board = b; progress = record { answer = Refused 2; done = 0 } } ≡ advancedOf b m e n
+  unfolding advancedOf checks
+  wrong h = rw h
+
+  pub broken : {w : Bool} → wrongLengths m e ≡ false → w ≡ workingBoard b m → not w ≡ true
+      → record { board = b; progress = record { answer = Refused 1; done = 0 } } ≡ advancedOf b m e n
+  unfolding advancedOf checks
+  broken {w} l k h = let f : workingBoard b m ≡ false = sym k ∙ not-true w h in rw (l, f)
+
+  -- ---- not refused
+  pub strode : Opened b m e → advancedOf b m e n ≡ shown b (strideAt b n)
+  unfolding advancedOf checks eventChecks
+  strode o = rw (o .long, o .working) (strided b m e n o)
+
+  pub brought : {s : Stride} {y : ℕ} {q : Requests} {v : Converter} → Opened b m e → s ≡ strideAt b n → y ≡ b .outputs .busy - s .done
+      → q ≡ askedTimer (b .requests) (s .fell0) → v ≡ triggered (b .converter) (on (b .converter .clken) && on (q .clksel) && s .fell2)
+      → record {
+        board =
+            withConverter (withRequests (withOutputs (withClocks b (s .clocks))
+            (record { codes = b .outputs .codes; load = b .outputs .load; lsb = b .outputs .lsb; busy = y })) q) v;
+        progress = record { answer = Done; done = s .done };
+      } ≡ advancedOf b m e n
+  brought {s = s} o s≡ y q v =
+      rw (v, q, y, by-out2 (on (b .converter .clken)) (on (b .requests .clksel)) (s .fell2)) (ap (shown b) s≡) ∙ sym (strode o)
+
+  -- ---- and of `ticks_until`
+  pub until : {s : Stride} → Opened b m e → s ≡ strideAt b n → s .done ≡ advancedOf b m e n .progress .done
+  until o s≡ = ap (λ (x : Stride). x .done) s≡ ∙ sym (ap (λ (r : Advanced). r .progress .done) (strode o))
+
+  neither : (a b : Bool) → not (a || b) ≡ true → (a ≡ false) × (b ≡ false)
+  neither true b h = never h
+  neither false true h = never h
+  neither false false h = (refl, refl)
+
+  pub muted : {h0 h2 : Bool} → Opened b m e → h0 ≡ heeds0 b → h2 ≡ heeds2 b → not (h0 || h2) ≡ true → n ≡ advancedOf b m e n .progress .done
+  unfolding strideAt strideOf
+  muted {h0} {h2} o e0 e2 h =
+      let f = neither h0 h2 h in
+      let z : 0 + n ≡ n = omega arith in
+      let d : strideAt b n .done ≡ n = rw (sym e0 ∙ f .0, sym e2 ∙ f .1) (unheeded (b .registers .counting) (gates b) n 0 (b .clocks) ∙ z) in
+      sym d ∙ until o refl

@@ -1,0 +1,4 @@
+pub mod Advance
+pub mod Advances
+pub mod Strided
+pub mod Lent
