@@ -9,6 +9,8 @@ import platform
 import random
 import resource
 import select
+import socket
+import struct
 import subprocess
 import sys
 
@@ -23,8 +25,8 @@ def limited():
         resource.setrlimit(resource.RLIMIT_AS, (LIMIT, LIMIT))
 
 
-def start(**more):
-    return subprocess.Popen([PROGRAM], stdin=subprocess.PIPE, stdout=subprocess.PIPE,
+def start(stdin=subprocess.PIPE, **more):
+    return subprocess.Popen([PROGRAM], stdin=stdin, stdout=subprocess.PIPE,
                             stderr=subprocess.PIPE, preexec_fn=limited, **more)
 
 
@@ -108,6 +110,24 @@ def zeros(size):
     expect("zeros", got, b"1 bad\n")
 
 
+def cut_off(name, fails, wanted):
+    """A line and the beginning of another over a connection, which then comes to its end, or fails: a reset makes the read that waits for more fail."""
+    with socket.create_server(("127.0.0.1", 0)) as server:
+        host = socket.create_connection(server.getsockname())
+        guest, _ = server.accept()
+    with guest:
+        program = start(stdin=guest)
+    host.sendall(b"R 7\nR 8")
+    first = program.stdout.readline()
+    if fails:
+        host.setsockopt(socket.SOL_SOCKET, socket.SO_LINGER, struct.pack("ii", 1, 0))
+    host.close()
+    got, errors = program.communicate()
+    expect(name, first + got, wanted)
+    if errors or program.returncode:
+        sys.exit("tests/session: %s: status %d, %r" % (name, program.returncode, errors))
+
+
 run("nothing", b"", b"")
 run("one newline", b"\n", b"1 bad\n")
 run("NUL, CR, tab, UTF-8", b"\0\nX\r\nR\t7\n\xce\xa9\nR 7", b"1 bad\n2 bad\n3 bad\n4 bad\n5 80\n")
@@ -121,4 +141,6 @@ for seed in range(20):
     run_cut("random text %d in pieces" % seed, random_text(rng, 60), rng)
 one_by_one("line by line", random_text(random.Random(99), 300))
 zeros(256 << 20)
+cut_off("the end of the input in a line", False, b"1 80\n2 60\n")
+cut_off("a failed read in a line", True, b"1 80\n")
 print("tests/session: the compiled session and the second text agree")

@@ -52,14 +52,14 @@ talk-more t piece from {r = r} h before ran =
     ∙ ap (final t) (take-rest piece from (r .taken) h)
 
 pub took-all : {t : Talk} {piece memory eeprom : List ℕ} {session : Session} {from : ℕ} → from ≤ length piece → length piece ≤ from
-    → talkOf session memory eeprom ≡ final t (take from piece) → (more : Bool) → Took t piece memory eeprom (record { session = session; taken = from; more = more })
-took-all {t} {piece} {from = from} h k before more =
+    → talkOf session memory eeprom ≡ final t (take from piece) → (more ended : Bool) → Took t piece memory eeprom (record { session = session; taken = from; more = more; ended = ended })
+took-all {t} {piece} {from = from} h k before more ended =
     record { count = omega arith; talk = before ∙ ap (final t) (take-all from piece k) }
 
 -- no byte was read
-pub took-none : (session : Session) (memory eeprom : List ℕ) (more : Bool)
-    → Took (talkOf session memory eeprom) [] memory eeprom (record { session = session; taken = 0; more = more })
-took-none session memory eeprom more = record { count = refl; talk = talk-none (talkOf session memory eeprom) }
+pub took-none : (session : Session) (memory eeprom : List ℕ) (more ended : Bool)
+    → Took (talkOf session memory eeprom) [] memory eeprom (record { session = session; taken = 0; more = more; ended = ended })
+took-none session memory eeprom more ended = record { count = refl; talk = talk-none (talkOf session memory eeprom) }
 
 -- the bytes that were read into a buffer
 pub took-read : {t : Talk} (buf : List ℕ) (n : ℕ) {memory eeprom : List ℕ} {r : Turned} → n ≤ length buf → Took t (take n buf) memory eeprom r

@@ -10,20 +10,23 @@ fn talk(memory: &mut [u16], eeprom: &mut [u8], buf: &mut [u8], out: &mut [u8])
 {
     let mut session = lines::begin();
     let mut more = true;
+    let mut ended = false;
     let mut turns = u64::MAX;
     while turns > 0 && more {
         let turned = pieces::turn(session, memory, eeprom, buf, out);
         let next = turned.session;
         session = next;
         more = turned.more;
+        ended = turned.ended;
         turns -= 1;
     }
-    if lines::is_begun(session) {
+    if ended & lines::is_begun(session) {
         pieces::answer(b"\n", session, memory, eeprom, out);
     }
 }
 
-// Reads standard input to its end and answers each of its lines, the last one also where it lacks its newline.
+// Reads standard input to its end and answers each of its lines, the last one also where it lacks its newline. Where a read or a write fails, it ends without a
+// further answer.
 pub fn run() {
     let mut memory = [0u16; 512];
     let mut eeprom = [0u8; 128];

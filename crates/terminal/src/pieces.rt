@@ -7,11 +7,12 @@ ghost use Rattle.terminal.specs.Took.{Took};
 use libc::STDOUT_FILENO;
 use lines::Session;
 
-// The session after some bytes, how many they are, and whether to go on.
+// The session after some bytes, how many they are, whether to go on, and whether the input has come to its end.
 pub struct Turned {
     pub session: Session,
     pub taken: usize,
     pub more: bool,
+    pub ended: bool,
 }
 
 // Answers a piece: as much of it as `out` has room for, then the rest.
@@ -41,10 +42,11 @@ pub fn answer(
         session,
         taken: from,
         more,
+        ended: false,
     }
 }
 
-// One read, its answer, and whether to go on.
+// One read, its answer, and whether to go on. A read of no bytes is the end of the input; a read that fails is not.
 pub fn turn(
     session: Session,
     memory: &mut [u16],
@@ -61,6 +63,7 @@ pub fn turn(
             session,
             taken: 0,
             more: false,
+            ended: got == 0,
         };
     }
     let n = io::count(got, buf);

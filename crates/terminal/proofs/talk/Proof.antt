@@ -6,11 +6,11 @@ use Rattle.terminal.proofs.talk.Statement.{statement}
 use Rattle.terminal.proofs.talk.Tie as tie
 
 abbrev Inv-loop : tie.InvT-loop
-Inv-loop memory₀ eeprom₀ buf₀ out₀ session₀ more₀ turns₀ t10 memory eeprom buf out session more turns =
+Inv-loop memory₀ eeprom₀ buf₀ out₀ session₀ more₀ ended₀ turns₀ t11 memory eeprom buf out session more ended turns =
     (length memory ≡ length memory₀) × (length eeprom ≡ length eeprom₀) × (length buf ≡ length buf₀) × (length out ≡ length out₀)
 
 abbrev μ-loop : tie.MeasureT-loop
-μ-loop memory₀ eeprom₀ buf₀ out₀ session₀ more₀ turns₀ t10 memory eeprom buf out session more turns = turns
+μ-loop memory₀ eeprom₀ buf₀ out₀ session₀ more₀ ended₀ turns₀ t11 memory eeprom buf out session more ended turns = turns
 
 begin-requires : tie.Need-begin-requires Inv-loop μ-loop
 begin-requires c κs = search needs

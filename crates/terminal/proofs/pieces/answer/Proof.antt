@@ -69,7 +69,7 @@ same-length-3 : tie.Need-same-length-3 Inv-loop μ-loop
 same-length-3 c = c .before .loop .inv .3
 
 returns : tie.Need-returns Inv-loop μ-loop
-returns c = took-all (c .before .loop .inv .0) (c .loop-test .left) (c .before .loop .inv .4) _
+returns c = took-all (c .before .loop .inv .0) (c .loop-test .left) (c .before .loop .inv .4) _ _
 
 pub answer-spec : {M : Type 1} → statement M
 answer-spec =

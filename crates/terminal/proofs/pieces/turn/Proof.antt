@@ -11,7 +11,7 @@ same-length : tie.Need-same-length
 same-length c = search needs
 
 returns : tie.Need-returns
-returns c = took-none _ _ _ _
+returns c = took-none _ _ _ _ _
 
 count-requires : tie.Need-count-requires
 count-requires c κs = search needs
