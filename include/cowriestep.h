@@ -1,8 +1,19 @@
 /*
  * Cowriestep: the Diamond-MM-32-AT board as plain C functions. Every function is proved to do what its comment says, for all inputs.
  *
- * Link with the static library that `rt staticlib cowriestep` writes: target/staticlib/libcowriestep.a.
+ * Link with the static library that `rt staticlib cowriestep` writes: target/staticlib/libcowriestep.a. dmm32_turn alone stands in that of `rt staticlib
+ * cowriestep_turn`, libcowriestep_turn.a, which a host that uses it links besides.
  * "The manual" is the board's, V2.64, with the data sheet of its 82C54 timer.
+ *
+ * How a board lives in a host. `board`, `memory` and `eeprom` are the host's; LENT stands for COWRIESTEP_LENT(&board, memory, eeprom).
+ *   begin       board = dmm32_fresh(COWRIESTEP_JUMPERS_A, 0); the memory is zeros, the EEPROM zeros or what was kept of it
+ *   lend        each access of the guest is one call, and so is what happens at the pins: dmm32_write_byte(LENT, offset, value), dmm32_din(LENT, levels), ..
+ *   advance     before each of them, the ticks of the 10 MHz clock that are due: dmm32_advance(LENT, ticks); see "how a host keeps time"
+ *   act         after each of them: dmm32_due(before, board) says whether the interrupt line is up, a conversion is in progress, a transfer runs, and which
+ *               outputs, ports and DOUT lines now put out something else; dmm32_irq(board) is the interrupt line alone
+ *   end         conversions and transfers end when the host says so: dmm32_conversion_end(LENT, code), dmm32_transfer_end(LENT)
+ *   reset       a reset of the guest's system is RESETA: dmm32_write_byte(LENT, 8, 0x20); see "how a system reset is done"
+ *   collect     a collector on the host's side empties the sample memory: dmm32_turn(LENT, collector), one bus access at a time
  *
  * Who owns what. The host keeps one record (struct dmm32_board), a sample memory of 512 numbers and an EEPROM of 128 bytes for each board, and lends
  * all three to a call. The library keeps nothing between calls, allocates nothing and has no state of its own: boards are independent, and calls over
@@ -29,6 +40,9 @@ extern "C" {
 
 #define COWRIESTEP_MEMORY_LENGTH 512         /* numbers in a sample memory */
 #define COWRIESTEP_EEPROM_LENGTH 128         /* bytes in an EEPROM */
+
+/* The five arguments that lend a board: a pointer to its record, its sample memory and its EEPROM, both of full length. */
+#define COWRIESTEP_LENT(board, memory, eeprom) (board), (memory), (size_t)COWRIESTEP_MEMORY_LENGTH, (eeprom), (size_t)COWRIESTEP_EEPROM_LENGTH
 
 /* ---- refusals, by the numbers of the specification. What is refused changes nothing, but for 15 */
 
@@ -308,13 +322,58 @@ uint32_t dmm32_ticks_until(struct dmm32_board board, const uint16_t *memory, siz
 uint32_t dmm32_transfer_end(struct dmm32_board *board, uint16_t *memory, size_t memory_length, uint8_t *eeprom, size_t eeprom_length);
 
 /*
+ * ---- what the host has to act on
+ *
+ * Both take records by value and change nothing. They answer for every record, a working board's or not.
+ */
+
+/* The interrupt line: whether one of the three request flags is set (manual 11.1). */
+bool dmm32_irq(struct dmm32_board board);
+
+/* dmm32_due: what the host has to act on, of a board before an event (or many) and after it, as bits of one number. What stands now: */
+#define COWRIESTEP_DUE_IRQ UINT32_C(0x001)           /* the interrupt line is up: dmm32_irq(after) */
+#define COWRIESTEP_DUE_CONVERSION UINT32_C(0x002)    /* a conversion is in progress: its end is dmm32_conversion_end's */
+#define COWRIESTEP_DUE_TRANSFER UINT32_C(0x004)      /* a transfer runs: its end is dmm32_transfer_end's */
+/* What the board puts out now, and did not before: */
+#define COWRIESTEP_DUE_DOUT UINT32_C(0x008)          /* DOUT2-0 on their pins, with OUT2 and OUT0 where Base + 10 brings them there */
+#define COWRIESTEP_DUE_OUTPUT_0 UINT32_C(0x010)      /* the code of output 0: after.outputs.codes.out0 */
+#define COWRIESTEP_DUE_OUTPUT_1 UINT32_C(0x020)
+#define COWRIESTEP_DUE_OUTPUT_2 UINT32_C(0x040)
+#define COWRIESTEP_DUE_OUTPUT_3 UINT32_C(0x080)
+#define COWRIESTEP_DUE_PORT_A UINT32_C(0x100)        /* the lines of port A that the board drives, or their levels; a latch behind an input is not put out */
+#define COWRIESTEP_DUE_PORT_B UINT32_C(0x200)
+#define COWRIESTEP_DUE_PORT_C UINT32_C(0x400)
+/* The channel of the conversion in progress, and the transfer that runs as calibration.transfer has it; 0 where there is none. */
+#define COWRIESTEP_DUE_CHANNEL(due) ((due) >> 16 & 255)
+#define COWRIESTEP_DUE_RUNNING(due) ((due) >> 24)
+
+uint32_t dmm32_due(struct dmm32_board before, struct dmm32_board after);
+
+/*
+ * ---- how long things take on the real board (the host paces them; the model has no clock of its own)
+ *
+ *   a conversion      about 4 microseconds (manual 10.5); at most 200,000 a second
+ *   a step of a scan  20, 15, 10 or 5 microseconds from one conversion to the next, by SCINT1-0, bits 5 and 4 of what the guest writes to Base + 11
+ *                     (manual, Base + 11; the driver's default is 20). The record does not keep SCINT
+ *   DACBUSY           10 microseconds (manual, Base + 4): 100 ticks, which the board counts by itself
+ *   transfers         the manual gives no time for the EEPROM, the TrimDAC or RUNCAL; a guest waits by CALBUSY, EEBUSY and TDBUSY. A whole calibration by the
+ *                     guest's driver takes about a second for each input range (manual 15)
+ *
+ * ---- how a system reset is done
+ *
+ * RESETA: dmm32_write_byte(LENT, 8, 0x20), whatever page is selected. It is the board's reset line: registers, page, request flags and the key are cleared, the
+ * sample memory is emptied, conversion and transfer are abandoned, the outputs go to their jumpered level. The EEPROM, the TrimDAC's values, the levels that the host
+ * gave to the pins and the jumpers stay, and the counters count on. A fresh record in its place would lose these: dmm32_fresh is for a board that begins.
+ */
+
+/*
  * ---- how a host keeps time
  *
  * The board has no clock of its own. The host knows how many ticks of its 10 MHz clock are due since it last advanced the board, and does with them:
  *   1. Before an access of the guest, and before any other event, it advances the board to now: dmm32_advance with the ticks that are due, and again with
  *      the rest while `done` is less than these, since a call stops where there is something to do.
- *   2. After each call it acts on what has come: where a conversion has begun, it works out when that one ends, and delivers dmm32_conversion_end when
- *      the board's time is there; where a request flag has gone up, it raises the interrupt.
+ *   2. After each call it acts on what has come, by dmm32_due: where a conversion has begun, it works out when that one ends, and delivers
+ *      dmm32_conversion_end when the board's time is there; where a request flag has gone up, it raises the interrupt.
  *   3. Then it delivers the event, and acts on what that has begun or raised in the same way.
  *   4. It asks dmm32_ticks_until how far the next such tick is, and sets a timer by the answer, or by the end of the conversion in progress where that
  *      comes sooner. When the timer fires it begins at 1. The board needs no other care: a late timer delays what the guest sees, and the board's own
@@ -324,8 +383,8 @@ uint32_t dmm32_transfer_end(struct dmm32_board *board, uint16_t *memory, size_t 
 /*
  * ---- the collector: it stops, sets and starts a board, empties its sample memory and hands the samples over
  *
- * Its record names one bus access at a time. The host asks for the access, makes it, and brings the answer back; what comes back has the next record.
- * All records go by value.
+ * Its record names one bus access at a time. The host asks for the access, makes it, and brings back what came of it; what comes back has the next record.
+ * On a board of this library dmm32_turn does the three at once. All records of the collector go by value.
  */
 
 /* What a start is given. */
@@ -377,10 +436,19 @@ struct dmm32_access {
 
 struct dmm32_access dmm32_collector_access(struct dmm32_collector collector);
 
-/* What the bus brought: COWRIESTEP_NUMBER of the board's answer. After a write, any number: it is not looked at. */
+/*
+ * What came of the access: the number that the bus brought, or a refusal of the board. After a write the number is not looked at. COWRIESTEP_BROUGHT is its
+ * initialiser where `answer` is a board's: struct dmm32_bus_answer brought = COWRIESTEP_BROUGHT(answer);
+ */
 struct dmm32_bus_answer {
-    uint16_t number;
+    uint16_t number;                         /* of kind number: the byte or the word */
+    uint8_t kind;                            /* COWRIESTEP_BROUGHT_NUMBER, _REFUSAL; another number is taken as a refusal */
+    uint8_t refusal;                         /* of kind refusal: its number */
 };
+
+#define COWRIESTEP_BROUGHT_NUMBER 0
+#define COWRIESTEP_BROUGHT_REFUSAL 1
+#define COWRIESTEP_BROUGHT(answer) { COWRIESTEP_NUMBER(answer), (uint8_t)(COWRIESTEP_KIND(answer) == COWRIESTEP_REFUSED), (uint8_t)COWRIESTEP_REFUSAL(answer) }
 
 /* A sample that is handed over: its channel and its signed code. */
 struct dmm32_sample {
@@ -393,7 +461,7 @@ struct dmm32_taken {
     struct dmm32_collector collector;        /* the next record; a refusal leaves it, but for the poll that gets stuck */
     uint16_t polls;                          /* polls of this start; with the last sample of a drain, of the start that ends there */
     uint8_t handed;                          /* COWRIESTEP_HANDED_NOTHING, _START_END, _SAMPLE, _LAST_SAMPLE, _REFUSED */
-    uint8_t refusal;                         /* of kind refused: 1 unfit, 15 stuck, 17 no byte, 16 a status that contradicts itself */
+    uint8_t refusal;                         /* of kind refused: 1 unfit, 15 stuck, 17 no byte, 16 a status that contradicts itself; or the board's own */
     struct dmm32_sample sample;              /* of kinds sample and last sample */
 };
 
@@ -403,7 +471,18 @@ struct dmm32_taken {
 #define COWRIESTEP_HANDED_LAST_SAMPLE 3      /* the last of 512 that are drained: a gap follows, and the collector starts again */
 #define COWRIESTEP_HANDED_REFUSED 4
 
-struct dmm32_taken dmm32_collector_take(struct dmm32_collector collector, struct dmm32_bus_answer answer);
+/*
+ * Takes what came of the access that the record names. Told of a refusal, a fit record that is not stuck stays as it is, hands nothing over and answers the
+ * refusal's number; an unfit one answers 1 and a stuck one 15, as to anything.
+ */
+struct dmm32_taken dmm32_collector_take(struct dmm32_collector collector, struct dmm32_bus_answer brought);
+
+/*
+ * One turn of a collector on a board: the access that it names is made as an event of the board, and the collector takes what comes of it. It is what
+ * dmm32_collector_access, the event and dmm32_collector_take do one after another. Where the collector names no access, or the board refuses it, nothing changes, and the
+ * number is in `refusal`: 1 unfit or 15 stuck, or the board's own. It is in libcowriestep_turn.a.
+ */
+struct dmm32_taken dmm32_turn(struct dmm32_board *board, uint16_t *memory, size_t memory_length, uint8_t *eeprom, size_t eeprom_length, struct dmm32_collector collector);
 
 /*
  * Of samples that start on channel low, how many from the front are whole scans of low to high: the most that are. 0 where low is above high or high

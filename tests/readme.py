@@ -2,7 +2,7 @@
 """README as it is written: the session's table is typed in and must be answered as it says, the C host is compiled, linked and run and must print what it says, and so are the
 lines that keep time, over a second in which counters 1 and 2 have counts of 1,000: OUT1 falls every 1,000 ticks, OUT2 at the 1,000,000th tick and every 1,000,000 from there.
 
-    readme.py SESSION LIBRARY     the session program, the static library of cowriestep
+    readme.py SESSION LIBRARY TURN     the session program, the static libraries of cowriestep and of cowriestep_turn
 """
 import os
 import platform
@@ -12,7 +12,7 @@ import subprocess
 import sys
 import tempfile
 
-session, library = sys.argv[1:]
+session, *libraries = sys.argv[1:]
 readme = open('README.md').read()
 
 
@@ -36,7 +36,7 @@ if platform.machine() != 'x86_64' and not shutil.which('x86_64-linux-gnu-gcc'):
     sys.exit()
 text = section('A C host')
 code = '\n'.join(line[4:] for line in text.split('\nWith these lines')[0].splitlines())
-prints = re.search(r'this prints `([^`]*)`', text).group(1)
+prints = '\n'.join(re.findall(r'`([^`]*)`', re.search(r'this prints (.*):\n', text).group(1)))
 
 
 def printed(code):
@@ -45,7 +45,7 @@ def printed(code):
         host = os.path.join(room, 'host')
         with open(host + '.c', 'w') as out:
             out.write(code)
-        subprocess.run([os.environ.get('CC', 'cc'), '-Wall', '-Wextra', '-Werror', '-Iinclude', host + '.c', library, '-o', host], check=True)
+        subprocess.run([os.environ.get('CC', 'cc'), '-Wall', '-Wextra', '-Werror', '-Iinclude', host + '.c', *libraries, '-o', host], check=True)
         return subprocess.run([host], capture_output=True, text=True, check=True).stdout
 
 

@@ -1,6 +1,6 @@
 #!/usr/bin/env python3
-"""Writes the proofs of the thin functions over a lent board, in crates/lent and crates/cowriestep: for each, proofs/NAME/Proof.antt, and for each of
-the two crates proofs/Lending.antt, which those of an event share, and proofs/Advancing.antt, which that of many ticks has. Run it in the repository's root after a change to these functions or to the record. It reads the
+"""Writes the proofs of the thin functions over a lent board, in crates/lent, cowriestep and cowriestep_turn: for each, proofs/NAME/Proof.antt, and for each
+crate what its functions share: proofs/Lending.antt for those of an event, Advancing.antt for that of many ticks, Driving.antt for a collector's turn. Run it in the repository's root after a change to these functions or to the record. It reads the
 functions, their parameters, callees and events, and where the answer lies behind the record, from the crates' sources; the events' cases and what a step
 does are not in it.
 
@@ -12,7 +12,7 @@ lengths of the memories first and answer refusal 2 at once. A function's locals,
     where lengths are tested: memory's length   whether it is wrong   eeprom's length   whether it is wrong   whether one is
     the record's copy   memory's pointer and slice   eeprom's pointer and slice   the variant
 
-The walk follows the statements and cites Lending.antt or Advancing.antt from the call on. Numbers in it are places in the list of what is owned at that point. The texts
+The walk follows the statements and cites that file from the call on. Numbers in it are places in the list of what is owned at that point. The texts
 are walk/proof.txt and walk/lending.txt; here is what is filled in.
 """
 import os
@@ -28,11 +28,14 @@ Family = namedtuple('Family', 'crate lending contract outcome answer promise eve
 LENT = '(x .now) (m .now) (e .now) ev'
 EVENT = ('Event', f'memoryAfter {LENT}', f'eepromAfter {LENT}')
 TICKS = ('ℕ', 'm .now', 'e .now')
+TURNED = 'lentTurn ev (x .now) (m .now) (e .now)'
+TURN = ('Collector', f'{TURNED} .board .memory', f'{TURNED} .board .eeprom')
 FAMILIES = [
     Family('lent', 'Lending', 'Stepped', 'Outcome', 'answer', f'stepOf {LENT}', *EVENT),
     Family('lent', 'Advancing', 'Moved', 'Advanced', 'progress', f'advancedOf {LENT}', *TICKS),
     Family('cowriestep', 'Lending', 'Stepped', 'Numbered', 'number', f'numberedOf (stepOf {LENT})', *EVENT),
     Family('cowriestep', 'Advancing', 'Moved', 'AdvancedNumbered', 'progress', f'advancedNumbered (advancedOf {LENT})', *TICKS),
+    Family('cowriestep_turn', 'Driving', 'Driven', 'TurnNumbered', 'taken', f'turnNumbered (turnedIn ({TURNED}))', *TURN),
 ]
 
 

@@ -9,7 +9,7 @@ static uint8_t eeprom[COWRIESTEP_EEPROM_LENGTH];
 static struct dmm32_board board;
 static struct dmm32_collector collector;
 
-#define LENT &board, memory, COWRIESTEP_MEMORY_LENGTH, eeprom, COWRIESTEP_EEPROM_LENGTH
+#define LENT COWRIESTEP_LENT(&board, memory, eeprom)
 #define REFUSED(n) (UINT32_C(0x60000000) + (n) * UINT32_C(0x1000000))
 
 static void answers(const char *what, uint32_t answer, uint32_t want) { expect("guest.c", what, answer, want); }
@@ -23,15 +23,23 @@ static void program_clock(void) {
     for (unsigned i = 0; i < sizeof bytes / sizeof *bytes; i++) answers("a write of the guest", dmm32_write_byte(LENT, bytes[i][0], bytes[i][1]), 0);
 }
 
-/* ---- the hypervisor: the access that the collector names, its answer, and what is handed over */
-static struct dmm32_taken turn(void) {
+/* ---- the hypervisor: the access that the collector names, its answer, and what is handed over; by hand on the run before the overflow's gap, by
+   dmm32_turn on the run after it */
+static int turned;
+
+static struct dmm32_taken by_hand(void) {
     struct dmm32_access x = dmm32_collector_access(collector);
     uint32_t answer = 0;
     if (x.kind == COWRIESTEP_ACCESS_WRITE_BYTE) answer = dmm32_write_byte(LENT, x.offset, x.value);
     if (x.kind == COWRIESTEP_ACCESS_READ_BYTE) answer = dmm32_read_byte(LENT, x.offset);
     if (x.kind == COWRIESTEP_ACCESS_READ_WORD) answer = dmm32_read_word(LENT, x.offset);
-    expect("guest.c", "a refused access", COWRIESTEP_REFUSAL(answer), 0);
-    struct dmm32_taken t = dmm32_collector_take(collector, (struct dmm32_bus_answer){ COWRIESTEP_NUMBER(answer) });
+    struct dmm32_bus_answer brought = COWRIESTEP_BROUGHT(answer);
+    return dmm32_collector_take(collector, brought);
+}
+
+static struct dmm32_taken turn(void) {
+    struct dmm32_taken t = turned ? dmm32_turn(LENT, collector) : by_hand();
+    expect("guest.c", "a refused access", t.refusal, 0);
     collector = t.collector;
     return t;
 }
@@ -95,10 +103,9 @@ static void overflow(void) {
         sample(i < 511 ? COWRIESTEP_HANDED_SAMPLE : COWRIESTEP_HANDED_LAST_SAMPLE, (uint8_t)(3 + (i + 2) % 3), (int16_t)(i * 127 - 32768));
     expect("guest.c", "held after the drain", board.fifo.held, 0);
     expect("guest.c", "polls of the next start", collector.polls, 0);
+    turned = 1;
     start();
-    convert(-1, 3);
-    look();
-    sample(COWRIESTEP_HANDED_SAMPLE, 3, -1);
+    five();
 }
 
 /* ---- the refusals 1 to 10 */
@@ -142,7 +149,7 @@ static void refused_start(struct dmm32_settings s, uint8_t number) {
 
 static void refused_take(uint8_t phase, uint16_t answer, uint8_t number, uint8_t after) {
     collector.phase = phase;
-    struct dmm32_taken t = dmm32_collector_take(collector, (struct dmm32_bus_answer){ answer });
+    struct dmm32_taken t = dmm32_collector_take(collector, (struct dmm32_bus_answer){ answer, COWRIESTEP_BROUGHT_NUMBER, 0 });
     expect("guest.c", "handed", t.handed, COWRIESTEP_HANDED_REFUSED);
     expect("guest.c", "the refusal of an answer", t.refusal, number);
     expect("guest.c", "the phase after it", t.collector.phase, after);

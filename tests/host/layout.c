@@ -178,7 +178,7 @@ static void collector(void) {
     /* a drain with 0x0102 word reads left: the sample leaves, and one less is left */
     c.phase = 9; c.next = 22; c.polls = 0x0122; c.left = 0x0102;
     expect("layout.c", "fit", dmm32_collector_is_fit(c), 1);
-    struct dmm32_taken t = dmm32_collector_take(c, (struct dmm32_bus_answer){ 0xC560 });
+    struct dmm32_taken t = dmm32_collector_take(c, (struct dmm32_bus_answer){ 0xC560, COWRIESTEP_BROUGHT_NUMBER, 14 });
     expect("layout.c", "handed", t.handed, COWRIESTEP_HANDED_SAMPLE);
     expect("layout.c", "refusal", t.refusal, 0);
     expect("layout.c", "polls", t.polls, 0x0122);

@@ -112,15 +112,10 @@ static void advance_to(uint64_t time) {
     }
 }
 
-/* the access that the collector names, its answer, and what is handed over */
+/* the access that the collector names, and what is handed over */
 static struct dmm32_taken turn(void) {
-    struct dmm32_access x = dmm32_collector_access(collector);
-    uint32_t answer = 0;
-    if (x.kind == COWRIESTEP_ACCESS_WRITE_BYTE) answer = dmm32_write_byte(LENT(&host), x.offset, x.value);
-    if (x.kind == COWRIESTEP_ACCESS_READ_BYTE) answer = dmm32_read_byte(LENT(&host), x.offset);
-    if (x.kind == COWRIESTEP_ACCESS_READ_WORD) answer = dmm32_read_word(LENT(&host), x.offset);
-    same("a refused access", COWRIESTEP_REFUSAL(answer), 0);
-    struct dmm32_taken t = dmm32_collector_take(collector, (struct dmm32_bus_answer){ COWRIESTEP_NUMBER(answer) });
+    struct dmm32_taken t = dmm32_turn(LENT(&host), collector);
+    same("a refused access", t.refusal, 0);
     collector = t.collector;
     return t;
 }

@@ -1,10 +1,8 @@
 -- What is printed for a line. The specification, "The session program": "It prints line number and `ok`, the answer in two or four hex capitals, or
 -- `refused n`; ` irq` follows when the flags go from none to some. Another line prints its number and `bad`." Letters are given by their codes.
 use Prim.Native.Nat.{ℕ}
-use mathlib.Core.Bool.{Bool, true, false, _||_}
+use mathlib.Core.Bool.{Bool, true, false}
 use mathlib.Core.List.{List, [], _∷_, _++_}
-use Rattle.base.specs.Flags.{on}
-use Rattle.requests.specs.declared.Flags.{Flags}
 use Rattle.events.specs.declared.Answer.{Answer}
 use Rattle.events.specs.declared.Answer.the-variants.{Done, Byte, Word, Refused}
 use Rattle.text.specs.Text.{byteText, wordText, decimalText}
@@ -37,10 +35,6 @@ answerText Done = okText
 answerText (Byte v) = byteAnswer v
 answerText (Word v) = wordAnswer v
 answerText (Refused n) = refusalAnswer n
-
--- whether a request flag is set
-abbrev pub asks : Flags → Bool
-asks flags = on (flags .adint) || on (flags .dint) || on (flags .tint)
 
 unfoldable pub eventText : ℕ → Answer → Bool → List ℕ
 eventText number answer irq = decimalText number ++ (answerText answer ++ (irqText irq ++ newline))

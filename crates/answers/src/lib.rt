@@ -3,9 +3,8 @@ ghost use mathlib.Core.Path.{_≡_};
 ghost use Prim.Native.Nat.{_+_, _≤_};
 ghost use lib.ListN.{length};
 ghost use Rattle.text.specs.Text.{Wrote};
-ghost use Rattle.answers.specs.Answers.{byteAnswer, wordAnswer, refusalAnswer, answerText, irqText, asks, eventText, badText};
+ghost use Rattle.answers.specs.Answers.{byteAnswer, wordAnswer, refusalAnswer, answerText, irqText, eventText, badText};
 use events::Answer;
-use requests::Flags;
 
 fn put_byte_answer(v: u8, out: &mut [u8], at: usize) -> usize
     requires { ⌜ at + 3 ≤ length (now out) ⌝ }
@@ -52,13 +51,6 @@ fn put_irq(raised: bool, out: &mut [u8], at: usize) -> usize
     } else {
         at
     }
-}
-
-// Whether a request flag is set.
-pub fn is_asking(flags: Flags) -> bool
-    ensures { λ r. ⌜ r ≡ asks flags ⌝ }
-{
-    (flags.adint == 1) | (flags.dint == 1) | (flags.tint == 1)
 }
 
 // The whole line for an event: its number, the answer, and whether the flags went from none to some.

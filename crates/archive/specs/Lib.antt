@@ -8,3 +8,6 @@ pub mod Simulates
 pub mod RealRuns
 pub mod Wrong
 pub mod Limit
+pub mod Gaps
+pub mod MetLaws
+pub mod Met

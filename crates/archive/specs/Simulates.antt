@@ -14,8 +14,8 @@ use Rattle.collector_answers.specs.declared.Sample.{Sample}
 use Rattle.collector.specs.Handed.{samplesOf, gapMarked}
 use Rattle.turns.specs.declared.Asked.{Asked}
 use Rattle.turns.specs.declared.Asked.the-variants.{Made, NotMade}
-use Rattle.turns.specs.declared.Brought.{Brought}
-use Rattle.turns.specs.declared.Brought.the-variants.{Answered, NotAnswered}
+use Rattle.collector_answers.specs.declared.BusAnswer.{BusAnswer}
+use Rattle.collector_answers.specs.declared.BusAnswer.the-variants as bus
 use Rattle.turns.specs.Machine.{View, Machine, Host}
 use Rattle.turns.specs.Turn.{eventOf, Turning, broughtBy, broughtTo, turnBy}
 use Rattle.archive_demand.specs.World.{eventIn}
@@ -48,9 +48,9 @@ module _ (M N : Machine) (Working : M .Board → Type 0) (f : M .Board → N .Bo
   abbrev mappedTurn : Turning (M .Board) → Turning (N .Board)
   mappedTurn t = record { collector = t .collector; board = f (t .board); polls = t .polls; handed = t .handed }
 
-  brought : (c : Collector) (b : M .Board) (q : Brought) → mappedTurn (broughtTo H c b q) ≡ broughtTo H c (f b) q
-  brought c b (Answered a) = refl
-  brought c b (NotAnswered n) = refl
+  brought : (c : Collector) (b : M .Board) (q : BusAnswer) → mappedTurn (broughtTo H c b q) ≡ broughtTo H c (f b) q
+  brought c b (bus.Number a) = refl
+  brought c b (bus.Refused n) = refl
 
   turned : (q : Asked) (c : Collector) (b : M .Board) → Working b → mappedTurn (turnBy M H q c b) ≡ turnBy N H q c (f b)
   turned (Made ev) c b w =
@@ -62,9 +62,9 @@ module _ (M N : Machine) (Working : M .Board → Type 0) (f : M .Board → N .Bo
   turn-works : (q : Asked) (c : Collector) (b : M .Board) → Working b → Working (turnBy M H q c b .board)
   turn-works (Made ev) c b w = by (broughtBy (M .answered b ev))
     where
-      by : (a : Brought) → Working (broughtTo H c (M .stepped b ev) a .board)
-      by (Answered a) = sim .works b ev w
-      by (NotAnswered n) = sim .works b ev w
+      by : (a : BusAnswer) → Working (broughtTo H c (M .stepped b ev) a .board)
+      by (bus.Number a) = sim .works b ev w
+      by (bus.Refused n) = sim .works b ev w
   turn-works (NotMade n) c b w = w
 
   -- ---- a happening

@@ -21,8 +21,8 @@ use Rattle.collector.specs.Kept.{begun-fit, replied-fit}
 use Rattle.turns.specs.Machine.{Machine}
 use Rattle.turns.specs.declared.Asked.{Asked}
 use Rattle.turns.specs.declared.Asked.the-variants.{Made, NotMade}
-use Rattle.turns.specs.declared.Brought.{Brought}
-use Rattle.turns.specs.declared.Brought.the-variants.{Answered, NotAnswered}
+use Rattle.collector_answers.specs.declared.BusAnswer.{BusAnswer}
+use Rattle.collector_answers.specs.declared.BusAnswer.the-variants as bus
 use Rattle.turns.specs.Turn.{eventOf, broughtBy, broughtTo, turnBy, turnOf}
 use Rattle.turns.specs.Hosts.{words}
 use Rattle.archive_demand.specs.World.{eventIn}
@@ -35,17 +35,17 @@ use Rattle.archive_demand.specs.Kept.{turn-kept}
 
 -- ---- what a turn leaves: a fit collector with its settings, and the board that the access leaves
 module _ {B : Type 0} (c : Collector) (fc : FitCollector c) (b : B) where
-  pub brought-fit : (x : Brought) → FitCollector (broughtTo words c b x .collector)
-  brought-fit (Answered a) = replied-fit c fc (a .number)
-  brought-fit (NotAnswered n) = fc
+  pub brought-fit : (x : BusAnswer) → FitCollector (broughtTo words c b x .collector)
+  brought-fit (bus.Number a) = replied-fit c fc a
+  brought-fit (bus.Refused n) = fc
 
-  pub brought-set : (x : Brought) → broughtTo words c b x .collector .settings ≡ c .settings
-  brought-set (Answered a) = step-holds c (a .number) (phaseOf (c .phase)) (replied c (a .number)) (step c (a .number) fc) .0
-  brought-set (NotAnswered n) = refl
+  pub brought-set : (x : BusAnswer) → broughtTo words c b x .collector .settings ≡ c .settings
+  brought-set (bus.Number a) = step-holds c a (phaseOf (c .phase)) (replied c a) (step c a fc) .0
+  brought-set (bus.Refused n) = refl
 
-  pub brought-board : (x : Brought) → broughtTo words c b x .board ≡ b
-  brought-board (Answered a) = refl
-  brought-board (NotAnswered n) = refl
+  pub brought-board : (x : BusAnswer) → broughtTo words c b x .board ≡ b
+  brought-board (bus.Number a) = refl
+  brought-board (bus.Refused n) = refl
 
 module _ (M : Machine) (Working : M .Board → Type 0) (laws : Laws M Working) where
   -- the board works, and the collector is fit and has these settings
@@ -57,7 +57,7 @@ module _ (M : Machine) (Working : M .Board → Type 0) (laws : Laws M Working) w
   module _ (c : Collector) (fc : FitCollector c) (b : M .Board) (wk : Working b) where
     turn-sound : (x : Asked) → Sound (c .settings) (record { board = turnBy M words x c b .board; collector = turnBy M words x c b .collector })
     turn-sound (Made ev) =
-        let y : Brought = broughtBy (M .answered b ev) in
+        let y : BusAnswer = broughtBy (M .answered b ev) in
         record {
           works = rw (brought-board c fc (M .stepped b ev) y) (laws .works b ev wk);
           fit = brought-fit c fc (M .stepped b ev) y;

@@ -19,3 +19,6 @@ pub mod Theorem
 pub mod Bits
 pub mod Small
 pub mod SmallLaws
+pub mod Reads
+pub mod ReadsLaws
+pub mod Polls

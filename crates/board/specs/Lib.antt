@@ -6,3 +6,17 @@ pub mod Conversions
 pub mod Abandoned
 pub mod Order
 pub mod Answers
+pub mod Stretches
+pub mod StretchLaws
+pub mod StretchSteps
+pub mod BusyLaws
+pub mod DacBusy
+pub mod DividerLaws
+pub mod Dividers
+pub mod WordLaws
+pub mod Words
+pub mod ResetLaws
+pub mod AfterReset
+pub mod Edges
+pub mod EdgeLaws
+pub mod NoEdge

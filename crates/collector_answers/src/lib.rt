@@ -2,10 +2,10 @@
 ghost use mathlib.Core.Path.{_≡_};
 ghost use Rattle.collector_answers.specs.Answers.{wide, STS, EF, contradicts, isFull, sampleAt};
 
-// What the bus brought: a byte, a word, or for a write anything.
-#[repr(C)]
-pub struct BusAnswer {
-    pub number: u16,
+// What came of an access: the number that the bus brought (a byte, a word, or for a write anything), or the number by which the board refused it.
+pub enum BusAnswer {
+    Number(u16),
+    Refused(u8),
 }
 
 // A sample that is handed over: its channel and its signed code.

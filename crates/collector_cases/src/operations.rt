@@ -111,12 +111,7 @@ fn start(b: Bench) -> Bench {
 fn answer(b: Bench, value: u32) -> Bench {
     let s = b.settings;
     let c = b.collector;
-    let t = collector::take_answer(
-        c,
-        BusAnswer {
-            number: word(value),
-        },
-    );
+    let t = collector::take_answer(c, BusAnswer::Number(word(value)));
     shows::taken(t);
     let d = t.collector;
     Bench {
@@ -153,12 +148,7 @@ fn answers(b: Bench, count: u32, value: u32) -> Bench {
     let mut gaps = 0u64;
     let mut left = count;
     while left > 1 {
-        let t = collector::take_answer(
-            c,
-            BusAnswer {
-                number: word(value),
-            },
-        );
+        let t = collector::take_answer(c, BusAnswer::Number(word(value)));
         let h = t.handed;
         samples = samples % 65536 + samples_in(h) % 2;
         gaps = gaps % 65536 + gaps_in(h) % 2;

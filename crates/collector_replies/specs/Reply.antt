@@ -8,6 +8,10 @@ use Rattle.collector_phases.specs.declared.Collector.{Collector}
 use Rattle.collector_phases.specs.declared.Phase.{Phase}
 use Rattle.collector_phases.specs.declared.Phase.the-variants.{Stop, Poll, Range, Clear, Low, High, Go, Look, Take, Drain, Stuck, Unknown}
 use Rattle.collector_phases.specs.declared.Access.{Access}
+use Rattle.collector_phases.specs.declared.Access.the-variants.{WriteByte, ReadByte, ReadWord, NoAccess}
+use Rattle.collector_phases.specs.Accesses.{accessOf}
+use Rattle.collector_answers.specs.declared.BusAnswer.{BusAnswer}
+use Rattle.collector_answers.specs.declared.BusAnswer.the-variants as bus
 use Rattle.collector_phases.specs.Phases.{number, phaseOf, accessIn, reads}
 use Rattle.collector_records.specs.Records.{entered, counted}
 use Rattle.collector_refusals.specs.Refusals.{answerChecks}
@@ -44,3 +48,19 @@ repliedIn p c a = decided (refusal (answerChecks (accessIn p (c .settings)) c a)
 
 unfoldable pub replied : Collector → ℕ → Taken
 replied c a = repliedIn (phaseOf (c .phase)) c a
+
+-- ---- the board refused the access: the record stays, nothing is handed over, and the number is the refusal's. It is not looked at whether the access was a
+-- read or a write. A record that names no access can't have had one refused: 1 and 15 come first, as with any answer
+abbrev pub whyRefused : Access → ℕ → ℕ
+whyRefused (WriteByte offset value) n = n
+whyRefused (ReadByte offset) n = n
+whyRefused (ReadWord offset) n = n
+whyRefused (NoAccess own) n = own
+
+abbrev pub toldRefusal : Collector → ℕ → Taken
+toldRefusal c n = reports c (Refused (whyRefused (accessOf c) n))
+
+-- whatever came of the access
+abbrev pub told : Collector → BusAnswer → Taken
+told c (bus.Number a) = replied c a
+told c (bus.Refused n) = toldRefusal c n

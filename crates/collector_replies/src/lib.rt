@@ -9,7 +9,7 @@ ghost use mathlib.Core.Path.{_≡_};
 ghost use Prim.Native.Nat.{_<_};
 ghost use mathlib.Core.Bool.{true};
 ghost use Rattle.collector_phases.specs.Fit.{fit};
-ghost use Rattle.collector_replies.specs.Reply.{answered, staying, repliedIn, replied};
+ghost use Rattle.collector_replies.specs.Reply.{answered, staying, repliedIn, replied, whyRefused, toldRefusal, told};
 
 // An answer that is not refused.
 fn advance(p: Phase, c: Collector, a: u16) -> Taken
@@ -59,13 +59,46 @@ fn reply(p: Phase, c: Collector, a: u16) -> Taken
     }
 }
 
-// Takes the answer to that access.
-pub fn take_answer(c: Collector, answer: BusAnswer) -> Taken
-    ensures { λ r. ⌜ r ≡ replied c (answer .number) ⌝ }
+// Takes the number that the bus brought.
+fn take_number(c: Collector, a: u16) -> Taken
+    ensures { λ r. ⌜ r ≡ replied c a ⌝ }
 {
     if collector_phases::is_fit(c) {
-        reply(collector_phases::phase_of(c.phase), c, answer.number)
+        reply(collector_phases::phase_of(c.phase), c, a)
     } else {
         collector_steps::report(c, Handed::Refused(1))
+    }
+}
+
+// The number by which a refused access is answered: where none is named, that which says why.
+fn why_refused(x: Access, number: u8) -> u8
+    ensures { λ r. ⌜ r ≡ whyRefused x number ⌝ }
+{
+    match x {
+        Access::WriteByte {
+            offset: _,
+            value: _,
+        } => number,
+        Access::ReadByte { offset: _ } => number,
+        Access::ReadWord { offset: _ } => number,
+        Access::NoAccess(own) => own,
+    }
+}
+
+// Is told that the board refused the access.
+fn take_refusal(c: Collector, number: u8) -> Taken
+    ensures { λ r. ⌜ r ≡ toldRefusal c number ⌝ }
+{
+    let why = why_refused(collector_phases::access_of(c), number);
+    collector_steps::report(c, Handed::Refused(why))
+}
+
+// Takes what came of that access.
+pub fn take_answer(c: Collector, answer: BusAnswer) -> Taken
+    ensures { λ r. ⌜ r ≡ told c answer ⌝ }
+{
+    match answer {
+        BusAnswer::Number(number) => take_number(c, number),
+        BusAnswer::Refused(number) => take_refusal(c, number),
     }
 }

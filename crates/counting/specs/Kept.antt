@@ -54,7 +54,7 @@ command-mod : (w : ℕ) → command (w % 64) ≡ command w
 unfolding command
 command-mod w = simp (rw-mod, m-mod, bcd-mod)
 
-setup-programmed : (w : ℕ) (f : Format) (m : Mode) → command w ≡ Program f m → setupOf (w % 64) ≡ Programmed f m
+pub setup-programmed : (w : ℕ) (f : Format) (m : Mode) → command w ≡ Program f m → setupOf (w % 64) ≡ Programmed f m
 unfolding setupOf
 setup-programmed w f m e = rw (command-mod w, e)
 

@@ -1,4 +1,4 @@
--- What a CLK pulse leaves of any counter: its control bits, the count to load, and what the bus has written and read of it.
+-- What a CLK pulse leaves of any counter: its control bits, the count to load, and what the bus has written and read of it. A move of GATE leaves them too.
 use mathlib.Core.Path.{_≡_, refl}
 use mathlib.Core.Bool.{Bool}
 use lib.Dec.{eqb}
@@ -11,7 +11,7 @@ use Rattle.counting_modes.specs.declared.Setup.{Setup}
 use Rattle.counting_modes.specs.declared.Setup.the-variants.{Unprogrammed, Programmed}
 use Rattle.counting_element.specs.Element.{pulseLoads, pulseCounts, pulseTaken, countedBy}
 use Rattle.counting_element.specs.declared.Count.{Count}
-use Rattle.counting.specs.Counter.{pulsedAs, pulsed}
+use Rattle.counting.specs.Counter.{pulsedAs, pulsed, gateMovedAs, gateMoved}
 use Rattle.counting.specs.declared.Counter.{Counter}
 
 register-counted : (m : Mode) (k : Count) → countedBy m k .register ≡ k .register
@@ -45,5 +45,29 @@ unfolding pulsed
 bus-pulsed c gate = go (setupOf (c .control))
   where
     go : (s : Setup) → pulsedAs s c gate .bus ≡ c .bus
+    go Unprogrammed = refl
+    go (Programmed f m) = refl
+
+pub control-gated : (c : Counter) (was is : Bool) → gateMoved c was is .control ≡ c .control
+unfolding gateMoved
+control-gated c was is = go (setupOf (c .control))
+  where
+    go : (s : Setup) → gateMovedAs s c was is .control ≡ c .control
+    go Unprogrammed = refl
+    go (Programmed f m) = refl
+
+pub register-gated : (c : Counter) (was is : Bool) → gateMoved c was is .count .register ≡ c .count .register
+unfolding gateMoved
+register-gated c was is = go (setupOf (c .control))
+  where
+    go : (s : Setup) → gateMovedAs s c was is .count .register ≡ c .count .register
+    go Unprogrammed = refl
+    go (Programmed f m) = refl
+
+pub bus-gated : (c : Counter) (was is : Bool) → gateMoved c was is .bus ≡ c .bus
+unfolding gateMoved
+bus-gated c was is = go (setupOf (c .control))
+  where
+    go : (s : Setup) → gateMovedAs s c was is .bus ≡ c .bus
     go Unprogrammed = refl
     go (Programmed f m) = refl

@@ -56,7 +56,7 @@ unfoldable pub faceCounted : Pace → Face → Face
 faceCounted p f = countedAs (p .counts) (p .rate) (p .register) f
 
 -- ---- laws: a pulse changes the face alone
-calm : (t w : Bool) → not (t || w) ≡ true → (t ≡ false) × (w ≡ false)
+pub calm : (t w : Bool) → not (t || w) ≡ true → (t ≡ false) × (w ≡ false)
 calm true w h = never h
 calm false true h = never h
 calm false false h = (refl, refl)

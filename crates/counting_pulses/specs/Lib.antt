@@ -1,3 +1,10 @@
 pub mod Pulses
 pub mod Periods
 pub mod Faces
+pub mod Signals
+pub mod SignalLaws
+pub mod ModeZeroLaws
+pub mod ModeZero
+pub mod ModeTwoLaws
+pub mod NewCountLaws
+pub mod ModeTwo

@@ -67,7 +67,7 @@ one-more-add true a b = omega arith
 one-more-add false a b = refl
 
 module _ (g : Bool) where
-  pulses-add : (p q : ℕ) (k : Counter) → pulses (p + q) k g ≡ pulses q (pulses p k g) g
+  pub pulses-add : (p q : ℕ) (k : Counter) → pulses (p + q) k g ≡ pulses q (pulses p k g) g
   pulses-add zero q k = let e : 0 + q ≡ q = omega arith in ap (λ (x : ℕ). pulses x k g) e
   pulses-add (suc p) q k = let e : suc p + q ≡ suc (p + q) = omega arith in ap (λ (x : ℕ). pulses x k g) e ∙ pulses-add p q (pulsed k g)
 
@@ -81,7 +81,7 @@ module _ (g : Bool) where
   stay : (k : Counter) → Trip g 0 0 k k
   stay k = record { to = refl; fallen = refl }
 
-  onward : {p q n m : ℕ} {k l r : Counter} → Trip g p n k l → Trip g q m l r → Trip g (p + q) (n + m) k r
+  pub onward : {p q n m : ℕ} {k l r : Counter} → Trip g p n k l → Trip g q m l r → Trip g (p + q) (n + m) k r
   onward {p} {q} {n} {m} {k} {l} a b = record {
     to = pulses-add p q k ∙ ap (λ (x : Counter). pulses q x g) (a .to) ∙ b .to;
     fallen =
@@ -97,7 +97,7 @@ module _ (g : Bool) where
   calm-falls (suc p) k c = rw (c 0 (omega arith)) (calm-falls p (pulsed k g) (λ q l. c (suc q) (omega arith)))
 
   -- n trips round
-  rounds : {p : ℕ} {k : Counter} → Trip g p 1 k k → (n : ℕ) → Trip g (n * p) n k k
+  pub rounds : {p : ℕ} {k : Counter} → Trip g p 1 k k → (n : ℕ) → Trip g (n * p) n k k
   rounds {p} {k} t zero = let e : 0 ≡ 0 * p = omega arith in subst (λ (x : ℕ). Trip g x 0 k k) e (stay k)
   rounds {p} {k} t (suc n) =
       let e : p + n * p ≡ suc n * p = omega arith in
@@ -113,7 +113,7 @@ same-down : {v w : ℕ} → v < 65536 → w < 65536 → down v ≡ down w → v 
 same-down h i e = omega arith
 
 -- ---- a counter in mode 2 that counts
-abbrev at-count : Count → ℕ → ℕ → Count
+abbrev pub at-count : Count → ℕ → ℕ → Count
 at-count c v o = record { register = c .register; element = v; out = o; waiting = 0; loaded = 1 }
 
 module _ (k : Counter) (g : Bool) {f : Format} (at : setupOf (k .control) ≡ Programmed f RateGenerator)
@@ -121,7 +121,7 @@ module _ (k : Counter) (g : Bool) {f : Format} (at : setupOf (k .control) ≡ Pr
   abbrev st : ℕ → ℕ → Counter
   st v o = part k (at-count (k .count) v o)
 
-  counts-on : (p v : ℕ) → p ≤ down v - 1 → Trip g p 0 (st v 1) (st (downs p v) 1)
+  pub counts-on : (p v : ℕ) → p ≤ down v - 1 → Trip g p 0 (st v 1) (st (downs p v) 1)
   counts-on p v h = record { to = go p h; fallen = calm-falls g p (st v 1) calm }
     where
       go : (q : ℕ) → q ≤ down v - 1 → pulses q (st v 1) g ≡ st (downs q v) 1
@@ -134,21 +134,25 @@ module _ (k : Counter) (g : Bool) {f : Format} (at : setupOf (k .control) ≡ Pr
   unfolding pulsed countedBy
   falls-now v h = once g (st v 1) (st 1 0) (rw (at, n, ne-eqb v 1 (λ e. omega arith), h))
 
-  reloads-now : Trip g 1 0 (st 1 0) (st (k .count .register) 1)
+  pub reloads-now : Trip g 1 0 (st 1 0) (st (k .count .register) 1)
   unfolding pulsed countedBy
   reloads-now = once g (st 1 0) (st (k .count .register) 1) (rw (at, n))
 
-  round : (v : ℕ) → v < 65536 → k .count .register < 65536 → 1 ≤ down v → down v ≤ down (k .count .register)
+  pub to-the-fall : (v : ℕ) → 1 ≤ down v → Trip g (down v) 1 (st v 1) (st 1 0)
+  to-the-fall v h =
+      let p = down v - 1 in
+      let two : down (downs p v) ≡ 1 = omega (arith, downs-down p v (omega arith)) in
+      let e : p + 1 ≡ down v = omega arith in
+      subst (λ (x : ℕ). Trip g x 1 (st v 1) (st 1 0)) e (onward g (counts-on p v (omega arith)) (falls-now (downs p v) two))
+
+  pub round : (v : ℕ) → v < 65536 → k .count .register < 65536 → 1 ≤ down v → down v ≤ down (k .count .register)
       → Trip g (suc (down (k .count .register))) 1 (st v 1) (st v 1)
   round v a b c d =
       let r = k .count .register in
-      let p = down v - 1 in
       let q = down r - down v in
-      let two : down (downs p v) ≡ 1 = omega (arith, downs-down p v (omega arith)) in
       let back : downs q r ≡ v = same-down (omega (arith, downs-less q r b)) a (omega (arith, downs-down q r (omega arith))) in
-      let t : Trip g (p + (1 + (1 + q))) 1 (st v 1) (st (downs q r) 1) =
-      onward g (counts-on p v (omega arith)) (onward g (falls-now (downs p v) two) (onward g reloads-now (counts-on q r (omega arith)))) in
-      let e : p + (1 + (1 + q)) ≡ suc (down r) = omega arith in
+      let t : Trip g (down v + (1 + q)) 1 (st v 1) (st (downs q r) 1) = onward g (to-the-fall v c) (onward g reloads-now (counts-on q r (omega arith))) in
+      let e : down v + (1 + q) ≡ suc (down r) = omega arith in
       subst (λ (x : ℕ). Trip g (suc (down r)) 1 (st v 1) (st x 1)) back
       (subst (λ (x : ℕ). Trip g x 1 (st v 1) (st (downs q r) 1)) e t)
 
@@ -161,13 +165,13 @@ fields k t w o l = record {
   bus = k .bus;
 }
 
-as-counts : (k : Counter) → k .trigger ≡ 0 → k .count .waiting ≡ 0 → k .count .out ≡ 1 → k .count .loaded ≡ 1
-    → k ≡ part k (at-count (k .count) (k .count .element) 1)
-as-counts k t w o l =
+pub as-counts : (k : Counter) {y : ℕ} → k .trigger ≡ 0 → k .count .waiting ≡ 0 → k .count .out ≡ y → k .count .loaded ≡ 1
+    → k ≡ part k (at-count (k .count) (k .count .element) y)
+as-counts k {y} t w o l =
     ap (λ (x : ℕ). fields k x (k .count .waiting) (k .count .out) (k .count .loaded)) t
     ∙ ap (λ (x : ℕ). fields k 0 x (k .count .out) (k .count .loaded)) w
     ∙ ap (λ (x : ℕ). fields k 0 0 x (k .count .loaded)) o
-    ∙ ap (λ (x : ℕ). fields k 0 0 1 x) l
+    ∙ ap (λ (x : ℕ). fields k 0 0 y x) l
 
 one-period : (k : Counter) (g : Bool) → Flags k → k .count .element < 65536 → k .count .register < 65536 → 0 < period k g → Trip g (period k g) 1 k k
 unfolding period

@@ -1,24 +1,26 @@
 // Fresh boards, the collector and whole scans, by value: each passes on what the crates below answer.
 use board::Board;
-use collector::BusAnswer;
 use collector::Collector;
 use collector::Settings;
+use numbers::TakenAnswer;
 use numbers::collecting::AccessNamed;
+use numbers::collecting::BusNumbers;
 use numbers::collecting::StartAnswer;
-use numbers::collecting::TakenAnswer;
 ghost use mathlib.Core.Path.{_≡_};
 ghost use lib.ListN.{length};
+ghost use Rattle.requests.specs.Requests.{asking};
+ghost use Rattle.machine_due.specs.Due.{dueOf};
 ghost use Rattle.board_stores.specs.Stores.{freshMemory, freshEeprom, storesAnswer};
 ghost use Rattle.board_refusal.specs.Working.{workingBoard};
 ghost use Rattle.board_advance.specs.Advance.{advancedOf};
 ghost use Rattle.collector_records.specs.Records.{started};
 ghost use Rattle.collector_phases.specs.Accesses.{accessOf};
-ghost use Rattle.collector_replies.specs.Reply.{replied};
+ghost use Rattle.collector_replies.specs.Reply.{told};
 ghost use Rattle.collector_phases.specs.Fit.{fit};
 ghost use Rattle.scans.specs.Scans.{wholeScans};
 ghost use Rattle.numbers.specs.Packed.{answerNumber};
 ghost use Rattle.numbers.specs.Boards.{freshOf};
-ghost use Rattle.numbers.specs.Collecting.{startAnswer, accessNamed, takenAnswer};
+ghost use Rattle.numbers.specs.Collecting.{startAnswer, accessNamed, busAnswer, takenAnswer};
 
 // A fresh board's record, for jumpers 0 to 3; any other number makes a record that is no working board's. Zero scale: 0 is no.
 #[no_mangle]
@@ -54,6 +56,22 @@ pub extern "C" fn dmm32_ticks_until(board: Board, memory: &[u16], eeprom: &[u8],
     board::ticks_until(board, memory, eeprom, most)
 }
 
+// The interrupt line: whether one of the three request flags is set.
+#[no_mangle]
+pub extern "C" fn dmm32_irq(board: Board) -> bool
+    ensures { λ r. ⌜ r ≡ asking (board .requests .flags) ⌝ }
+{
+    machine_due::irq(board)
+}
+
+// What the host has to act on, of a board before and after what happened to it, as bits of one number.
+#[no_mangle]
+pub extern "C" fn dmm32_due(before: Board, after: Board) -> u32
+    ensures { λ r. ⌜ r ≡ dueOf before after ⌝ }
+{
+    machine_due::due(before, after)
+}
+
 // A collector for these settings, or the refusal 14, 11, 12 or 13.
 #[no_mangle]
 pub extern "C" fn dmm32_collector_start(settings: Settings) -> StartAnswer
@@ -78,12 +96,12 @@ pub extern "C" fn dmm32_collector_access(c: Collector) -> AccessNamed
     numbers::collecting::access(c)
 }
 
-// Takes the answer to that access.
+// Takes what came of that access.
 #[no_mangle]
-pub extern "C" fn dmm32_collector_take(c: Collector, answer: BusAnswer) -> TakenAnswer
-    ensures { λ r. ⌜ r ≡ takenAnswer (replied c (answer .number)) ⌝ }
+pub extern "C" fn dmm32_collector_take(c: Collector, brought: BusNumbers) -> TakenAnswer
+    ensures { λ r. ⌜ r ≡ takenAnswer (told c (busAnswer brought)) ⌝ }
 {
-    numbers::collecting::take(c, answer)
+    numbers::collecting::take(c, brought)
 }
 
 // How many of the samples, from the front, are the part that holds whole scans.

@@ -12,7 +12,8 @@ use Rattle.words.specs.Ends.{commandRead}
 use Rattle.text.specs.Text.{Wrote}
 use Rattle.reading.specs.declared.Reading.the-variants.{Blank}
 use Rattle.text.proofs.Writing.{wrote-as}
-use Rattle.answers.specs.Answers.{asks, eventText, badText}
+use Rattle.requests.specs.Requests.{asking}
+use Rattle.answers.specs.Answers.{eventText, badText}
 use Rattle.answers.proofs.Lengths.{event-length, bad-length}
 use Rattle.talk.specs.Session.{Talk, talkOf, counted}
 use Rattle.asked.specs.Asked.{askedBy}
@@ -22,10 +23,10 @@ use Rattle.asked.specs.declared.Asked.the-variants.{Nothing, Happen}
 use Rattle.line.specs.declared.Answered.{Answered}
 
 -- an event happened: its outcome, both memories, and the line
-pub happened : (b : Board) (number : ℕ) (event : Event) (memory₀ eeprom₀ : List ℕ) {memory eeprom out out′ : List ℕ} {at place : ℕ} {o : Outcome} {asked asking : Bool}
+pub happened : (b : Board) (number : ℕ) (event : Event) (memory₀ eeprom₀ : List ℕ) {memory eeprom out out′ : List ℕ} {at place : ℕ} {o : Outcome} {asked asks : Bool}
     → o ≡ stepOf b memory₀ eeprom₀ event → memory ≡ memoryAfter b memory₀ eeprom₀ event → eeprom ≡ eepromAfter b memory₀ eeprom₀ event
-    → asked ≡ asks (b .requests .flags) → asking ≡ asks (o .board .requests .flags)
-    → Wrote (eventText number (o .answer) (not asked && asking)) out at out′ place
+    → asked ≡ asking (b .requests .flags) → asks ≡ asking (o .board .requests .flags)
+    → Wrote (eventText number (o .answer) (not asked && asks)) out at out′ place
     → Happened b number event memory₀ eeprom₀ out at memory eeprom out′ (record { session = record { board = o .board; reading = Blank; number = number }; at = place })
 happened b number event memory₀ eeprom₀ {o = o} oe me ee was is w =
     record {

@@ -9,7 +9,8 @@ use Rattle.events.specs.declared.Event.{Event}
 use Rattle.reading.specs.declared.Reading.the-variants.{Blank}
 use Rattle.text.specs.Text.{Wrote}
 use Rattle.words.specs.Ends.{commandRead}
-use Rattle.answers.specs.Answers.{asks, eventText, badText}
+use Rattle.requests.specs.Requests.{asking}
+use Rattle.answers.specs.Answers.{eventText, badText}
 use Rattle.asked.specs.Asked.{askedBy}
 use Rattle.asked.specs.declared.Asked.{Asked}
 use Rattle.asked.specs.declared.Asked.the-variants.{Nothing, Happen}
@@ -18,7 +19,7 @@ use Rattle.line.specs.declared.Answered.{Answered}
 
 -- the flags go from none to some
 abbrev pub raised : Board → Board → Bool
-raised before after = not (asks (before .requests .flags)) && asks (after .requests .flags)
+raised before after = not (asking (before .requests .flags)) && asking (after .requests .flags)
 
 abbrev pub doneBy : Talk → Asked → Talk
 doneBy t Nothing = record { board = t .board; memory = t .memory; eeprom = t .eeprom; number = counted (t .number); reading = Blank }

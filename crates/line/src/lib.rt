@@ -28,11 +28,11 @@ fn happen(
     requires { ⌜ (at ≤ length (now out)) × (64 ≤ length (now out) - at) ⌝ }
     ensures { λ r. ⌜ Happened board number event (now (memory .entry)) (now (eeprom .entry)) (now (out .entry)) at (now (memory .exit)) (now (eeprom .exit)) (now (out .exit)) r ⌝ }
 {
-    let asked = answers::is_asking(board.requests.flags);
+    let asked = requests::is_asking(board.requests.flags);
     let outcome = board::step(board, memory, eeprom, event);
     let next = outcome.board;
     let answer = outcome.answer;
-    let asks = answers::is_asking(next.requests.flags);
+    let asks = requests::is_asking(next.requests.flags);
     let place = answers::put_event(number, answer, !asked & asks, out, at);
     Answered {
         session: Session {

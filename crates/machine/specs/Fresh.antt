@@ -2,6 +2,8 @@
 -- DIN 15, Latch and port pins 0, EEPROM and TrimDAC 0."
 use Prim.Native.Nat.{ℕ}
 use mathlib.Core.Bool.{Bool}
+use lib.Dec.{eqb}
+use Rattle.base.specs.Choice.{if_then_else_}
 use Rattle.base.specs.Flags.{flag}
 use Rattle.converter.specs.Registers.{freshConverter}
 use Rattle.requests.specs.Registers.{freshRequests}
@@ -21,6 +23,14 @@ numberOf A = 0
 numberOf B = 1
 numberOf C = 2
 numberOf D = 3
+
+-- and back; of any other number, D
+abbrev pub jumpersOf : ℕ → Jumpers
+jumpersOf n =
+    if eqb n 0 then A
+    else if eqb n 1 then B
+    else if eqb n 2 then C
+    else D
 
 abbrev pub freshRegisters : Registers
 freshRegisters = record { page = 0; dout = 0; counting = 0; range = 0 }

@@ -1,65 +1,76 @@
--- Runs of events of a board, and what is looked at after each event. An event is the board's own, `happened`, which its step goes by.
-use Prim.Native.Nat.{ℕ}
+-- Runs of events of a board, and what is looked at after each event: over the record, the sample memory and the EEPROM, by the step of
+-- `board::step`, so through every check of it, the lengths (2) and the working record (1) too.
+use Prim.Native.Nat.{ℕ, zero, suc}
 use mathlib.Core.Bool.{Bool, false}
 use mathlib.Core.List.{List, [], _∷_}
-use lib.IntN.{ℤ, pos}
-use lib.ListN.{length, replicate}
+use lib.IntN.{pos}
+use lib.ListN.{replicate}
 use Rattle.base.specs.Flags.{on}
+use Rattle.fifo.specs.Queue.{layout}
 use Rattle.fifo.specs.declared.Fifo.{Fifo}
 use Rattle.machine.specs.Fresh.{freshBoard}
 use Rattle.machine.specs.Parts.{withFifo}
+use Rattle.machine.specs.declared.Board.{Board}
 use Rattle.machine.specs.declared.Jumpers.the-variants.{A}
-use Rattle.board.specs.Held.{Held, answered, happened}
+use Rattle.board_advance.specs.Advances.{State}
+use Rattle.board.specs.Stretches.{answerAt, afterEvent, afterEvents, freshState}
 use Rattle.events.specs.declared.Answer.{Answer}
 use Rattle.events.specs.declared.Event.{Event}
 use Rattle.events.specs.declared.Event.the-variants.{WriteByte, ConversionEnd, Tick}
 use Rattle.collector_settings.specs.declared.Settings.{Settings}
 
--- a fresh board, jumpers A, mid-scale
-abbrev pub fresh : Held
-fresh = record { board = freshBoard A false; samples = []; eeprom = replicate 128 0 }
+-- a fresh board, jumpers A, mid-scale, with fresh stores; `layout` is the memory that holds these samples, from place 0 on, its free places 0
+abbrev pub fresh : State
+fresh = freshState A false
 
--- a fresh board that holds 512 samples
-abbrev pub full : Held
-full = record {
-  board = withFifo (freshBoard A false) (record { held = 512; ovf = 0 });
-  samples = replicate 512 0;
-  eeprom = replicate 128 0;
-}
+-- a fresh board that holds these samples, 512 of them
+abbrev pub fullFifo : Fifo
+fullFifo = record { held = 512; ovf = 0 }
 
--- the board after some events
-abbrev pub after : Held → List Event → Held
-after h [] = h
-after h (e ∷ es) = after (happened h e) es
+abbrev pub full : List ℕ → State
+full samples = record { board = withFifo (freshBoard A false) fullFifo; memory = layout fullFifo samples; eeprom = replicate 128 0 }
 
--- the answer to each event
-abbrev pub answers : Held → List Event → List Answer
-answers h [] = []
-answers h (e ∷ es) = answered h e ∷ answers (happened h e) es
+-- ---- the answer to each of some events, one after another
+abbrev pub answers : State → List Event → List Answer
+answers s [] = []
+answers s (e ∷ es) = answerAt s e ∷ answers (afterEvent s e) es
 
--- ---- conversions: a software trigger and an end each; the channel of each
-abbrev pub triggered : Held → Held
-triggered h = happened h (WriteByte 0 0)
+-- what the record shows after each of some runs, one after another
+abbrev pub shown : {X : Type 0} → (Board → X) → State → List (List Event) → List X
+shown look s [] = []
+shown look s (es ∷ more) = look (afterEvents s es .board) ∷ shown look (afterEvents s es) more
 
-abbrev pub converted : Held → Held
-converted h = happened (triggered h) (ConversionEnd (pos 0))
+abbrev pub OUT0 : Board → Bool
+OUT0 b = on (b .clocks .timer .counter0 .count .out)
 
-abbrev pub channels : List ℕ → Held → List ℕ
-channels [] h = []
-channels (n ∷ ns) h = triggered h .board .converter .channel ∷ channels ns (converted h)
+-- the channel of the conversion that began last
+abbrev pub channel : Board → ℕ
+channel b = b .converter .channel
 
-abbrev pub conversions : List ℕ → Held → Held
-conversions [] h = h
-conversions (n ∷ ns) h = conversions ns (converted h)
+-- ---- something n times
+unfoldable pub times : {X : Type 0} → ℕ → X → List X
+times zero x = []
+times (suc n) x = x ∷ times n x
 
--- ---- OUT0 after each of some ticks
-abbrev pub outs : List ℕ → Held → List Bool
-outs [] h = []
-outs (n ∷ ns) h = on (happened h Tick .board .clocks .timer .counter0 .count .out) ∷ outs ns (happened h Tick)
+-- ---- conversions: each begins by a software trigger and ends
+abbrev pub begins : Event
+begins = WriteByte 0 0
 
-abbrev pub ticks : List ℕ → Held → Held
-ticks [] h = h
-ticks (n ∷ ns) h = ticks ns (happened h Tick)
+abbrev pub ends : Event
+ends = ConversionEnd (pos 0)
+
+unfoldable pub conversions : ℕ → List Event
+conversions zero = []
+conversions (suc n) = begins ∷ ends ∷ conversions n
+
+-- n of them up to the beginning of each: the first begins; then each time one ends and the next begins
+unfoldable pub beginnings : ℕ → List (List Event)
+beginnings zero = []
+beginnings (suc n) = (begins ∷ []) ∷ times n (ends ∷ begins ∷ [])
+
+-- ---- ticks of the 10 MHz clock, one by one
+abbrev pub eachTick : ℕ → List (List Event)
+eachTick n = times n (Tick ∷ [])
 
 -- ---- a start of the collector: jumpers C and these channels, range code 0, the internal clock, 1,000 polls
 abbrev pub jumpersC : ℕ → ℕ → Settings

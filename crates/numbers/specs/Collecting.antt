@@ -1,7 +1,11 @@
 -- The collector's answers in records of numbers. The specification, "The collector"; what a kind does not have is 0.
 use Prim.Native.Nat.{ℕ}
+use lib.Dec.{eqb}
 use lib.IntN.{pos}
 use Rattle.collector_phases.specs.declared.Collector.{Collector}
+use Rattle.base.specs.Choice.{if_then_else_}
+use Rattle.collector_answers.specs.declared.BusAnswer.{BusAnswer}
+use Rattle.collector_answers.specs.declared.BusAnswer.the-variants as bus
 use Rattle.collector_answers.specs.declared.Sample.{Sample}
 use Rattle.collector_records.specs.declared.Started.{Started}
 use Rattle.collector_records.specs.declared.Started.the-variants.{Begun, NotBegun}
@@ -13,7 +17,8 @@ use Rattle.collector_steps.specs.declared.Taken.{Taken}
 use Rattle.collector.specs.Handed.{refusalNumber}
 use Rattle.numbers.specs.declared.collecting.StartAnswer.{StartAnswer}
 use Rattle.numbers.specs.declared.collecting.AccessNamed.{AccessNamed}
-use Rattle.numbers.specs.declared.collecting.TakenAnswer.{TakenAnswer}
+use Rattle.numbers.specs.declared.collecting.BusNumbers.{BusNumbers}
+use Rattle.numbers.specs.declared.TakenAnswer.{TakenAnswer}
 
 -- ---- a start
 abbrev pub noCollector : Collector
@@ -35,6 +40,10 @@ accessNamed (WriteByte offset value) = record { kind = 1; offset = offset; value
 accessNamed (ReadByte offset) = record { kind = 2; offset = offset; value = 0; refusal = 0 }
 accessNamed (ReadWord offset) = record { kind = 3; offset = offset; value = 0; refusal = 0 }
 accessNamed (NoAccess number) = record { kind = 0; offset = 0; value = 0; refusal = number }
+
+-- ---- what came of it: of kind 0 the number that the bus brought; of any other, the refusal of the board
+abbrev pub busAnswer : BusNumbers → BusAnswer
+busAnswer n = if eqb (n .kind) 0 then bus.Number (n .number) else bus.Refused (n .refusal)
 
 -- ---- what is handed over
 abbrev pub kindHanded : Handed → ℕ

@@ -1,63 +1,94 @@
--- What a host reads off an answer's number (COWRIESTEP_KIND, COWRIESTEP_REFUSAL, COWRIESTEP_NUMBER of include/cowriestep.h) is what was put into it,
--- a refusal modulo 32. The refusals of the specification are 1 to 19, those of a step 1 to 10, so no two answers of a step whose values are below 65536
--- have one number.
-use Prim.Native.Nat.{ℕ, _/_, _%_, _<_}
+-- What a host reads off an answer's number (COWRIESTEP_KIND, COWRIESTEP_REFUSAL, COWRIESTEP_NUMBER of include/cowriestep.h) is the answer that the step
+-- gave: no answer of a step is taken for another. Of the board it is asked only that its record and its sample memory are values of their types,
+-- `Recorded` and `Sixteen`, which all are that a host lends or passes; they bound the value. The refusals of a step are 1 to 10, whatever the board. The code's own
+-- promise (`number_of`) asks nothing of values: there the types bound them.
+use Prim.Native.Nat.{ℕ, zero, suc, _/_, _%_, _<_}
 use mathlib.Core.Path.{_≡_, refl, sym, ap, _∙_}
+use mathlib.Core.Bool.{Bool, true, false}
 use mathlib.Core.List.{List}
 use native.Mathlib.Omega.{arith}
+use lib.Dec.{eqb}
+use Rattle.base.specs.Choice.{if_then_else_}
 use Rattle.machine.specs.declared.Board.{Board}
 use Rattle.events.specs.Answers.{refusalNumber, valueRead}
 use Rattle.events.specs.declared.Answer.{Answer}
 use Rattle.events.specs.declared.Answer.the-variants.{Done, Byte, Word, Refused}
 use Rattle.events.specs.declared.Event.{Event}
-use Rattle.board_step.specs.Step.{stepOf}
-use Rattle.board.specs.Answers.{answer-number}
+use Rattle.events.specs.declared.Event.the-variants.{Tick}
+use Rattle.board_step.specs.Step.{number, stepOf, memoryAfter, eepromAfter}
+use Rattle.board_step.specs.Lent.{Stepped}
+use Rattle.board_advance.specs.Advance.{news, advancedFrom, advancedOf}
+use Rattle.board_advance.specs.declared.Advanced.{Advanced}
+use Rattle.board.specs.Answers.{answer-number, valueBrought, answer-value}
 use Rattle.board.specs.Order.{refusal-bound}
-use Rattle.numbers.specs.Packed.{packed, kindOf, answerNumber}
+use Rattle.numbers.specs.Packed.{packed, answerNumber, kindIn, refusalIn, valueIn, decoded}
+use Rattle.numbers.specs.Typed.{Recorded, Sixteen}
+use Rattle.numbers.specs.TypedLaws.{value-below}
 
-pub kind-in : (kind refusal value : ℕ) → value < 65536 → packed kind refusal value / 0x20000000 ≡ kind
+-- ---- what was put in comes out
+pub kind-in : (kind refusal value : ℕ) → value < 65536 → kindIn (packed kind refusal value) ≡ kind
 kind-in kind refusal value h = omega arith
 
-pub refusal-in : (kind refusal value : ℕ) → value < 65536 → packed kind refusal value / 0x1000000 % 32 ≡ refusal % 32
+pub refusal-in : (kind refusal value : ℕ) → value < 65536 → refusalIn (packed kind refusal value) ≡ refusal % 32
 refusal-in kind refusal value h = omega arith
 
-pub value-in : (kind refusal value : ℕ) → value < 65536 → packed kind refusal value % 65536 ≡ value
+pub value-in : (kind refusal value : ℕ) → value < 65536 → valueIn (packed kind refusal value) ≡ value
 value-in kind refusal value h = omega arith
 
 pub free-in : (kind refusal value : ℕ) → value < 65536 → packed kind refusal value / 65536 % 256 ≡ 0
 free-in kind refusal value h = omega arith
 
--- an answer is known by its kind, its refusal and its value
-pub by-parts : (a b : Answer) → kindOf a ≡ kindOf b → refusalNumber a ≡ refusalNumber b → valueRead a ≡ valueRead b → a ≡ b
-by-parts Done Done k r v = refl
-by-parts (Byte x) (Byte y) k r v = cc
-by-parts (Word x) (Word y) k r v = cc
-by-parts (Refused x) (Refused y) k r v = cc
-by-parts Done (Byte y) k r v = absurd (omega arith)
-by-parts Done (Word y) k r v = absurd (omega arith)
-by-parts Done (Refused y) k r v = absurd (omega arith)
-by-parts (Byte x) Done k r v = absurd (omega arith)
-by-parts (Byte x) (Word y) k r v = absurd (omega arith)
-by-parts (Byte x) (Refused y) k r v = absurd (omega arith)
-by-parts (Word x) Done k r v = absurd (omega arith)
-by-parts (Word x) (Byte y) k r v = absurd (omega arith)
-by-parts (Word x) (Refused y) k r v = absurd (omega arith)
-by-parts (Refused x) Done k r v = absurd (omega arith)
-by-parts (Refused x) (Byte y) k r v = absurd (omega arith)
-by-parts (Refused x) (Word y) k r v = absurd (omega arith)
+-- of any answer whose refusal is below 32 and whose value has 16 bits
+pub decoded-answer : (a : Answer) → refusalNumber a < 32 → valueRead a < 65536 → decoded (answerNumber a) ≡ a
+decoded-answer Done r v = refl
+decoded-answer (Byte x) r v = rw (kind-in 1 0 x v, value-in 1 0 x v)
+decoded-answer (Word x) r v = rw (kind-in 2 0 x v, value-in 2 0 x v)
+decoded-answer (Refused n) r v = rw (kind-in 3 n 0 v, refusal-in 3 n 0 v) (ap Refused (omega (arith, r)))
 
--- two answers with one number are one answer, where their refusals are below 32
-pub answers-apart : (a b : Answer) → refusalNumber a < 32 → refusalNumber b < 32 → valueRead a < 65536 → valueRead b < 65536
-    → answerNumber a ≡ answerNumber b → a ≡ b
-answers-apart a b ra rb va vb h =
-    by-parts a b
-    (sym (kind-in (kindOf a) (refusalNumber a) (valueRead a) va) ∙ ap (λ (n : ℕ). n / 0x20000000) h ∙ kind-in (kindOf b) (refusalNumber b) (valueRead b) vb)
-    (let q : refusalNumber a % 32 ≡ refusalNumber b % 32 =
-    sym (refusal-in (kindOf a) (refusalNumber a) (valueRead a) va) ∙ ap (λ (n : ℕ). n / 0x1000000 % 32) h
-    ∙ refusal-in (kindOf b) (refusalNumber b) (valueRead b) vb in
-    omega (arith, q, ra, rb))
-    (sym (value-in (kindOf a) (refusalNumber a) (valueRead a) va) ∙ ap (λ (n : ℕ). n % 65536) h ∙ value-in (kindOf b) (refusalNumber b) (valueRead b) vb)
-
--- and those of a step are
+-- ---- the answers of steps
 pub step-refusal : (b : Board) (memory eeprom : List ℕ) (ev : Event) → refusalNumber (stepOf b memory eeprom ev .answer) < 32
 step-refusal b memory eeprom ev = omega (arith, answer-number b memory eeprom ev, refusal-bound b memory eeprom ev)
+
+-- the number of any step's answer is read as that answer
+pub step-decoded : (b : Board) (memory eeprom : List ℕ) (ev : Event) → Recorded b → Sixteen memory
+    → decoded (answerNumber (stepOf b memory eeprom ev .answer)) ≡ stepOf b memory eeprom ev .answer
+step-decoded b memory eeprom ev r s =
+    decoded-answer (stepOf b memory eeprom ev .answer) (step-refusal b memory eeprom ev) (value-below b memory eeprom ev r s)
+
+-- so is the number that a function over a lent board answers (`dmm32_read_byte` and the others promise `Stepped answerNumber`)
+pub lent-decoded : (b b′ : Board) (m m′ e e′ : List ℕ) (ev : Event) (r : ℕ) → Stepped answerNumber b m e ev r b′ m′ e′ → Recorded b → Sixteen m
+    → decoded r ≡ stepOf b m e ev .answer
+lent-decoded b b′ m m′ e e′ ev r k w s = ap decoded (k .answer) ∙ step-decoded b m e ev w s
+
+-- "no answer can be taken for another": steps whose answers have one number, of whatever boards and events, have one answer
+pub answers-apart : (b b′ : Board) (m m′ e e′ : List ℕ) (ev ev′ : Event) → Recorded b → Recorded b′ → Sixteen m → Sixteen m′
+    → answerNumber (stepOf b m e ev .answer) ≡ answerNumber (stepOf b′ m′ e′ ev′ .answer) → stepOf b m e ev .answer ≡ stepOf b′ m′ e′ ev′ .answer
+answers-apart b b′ m m′ e e′ ev ev′ w w′ s s′ h = sym (step-decoded b m e ev w s) ∙ ap decoded h ∙ step-decoded b′ m′ e′ ev′ w′ s′
+
+-- ---- many ticks: their answer is read as it was given too, whatever the record. No tick brings a value
+tick-value : (b : Board) (m e : List ℕ) → valueRead (stepOf b m e Tick .answer) < 65536
+unfolding valueBrought
+tick-value b m e = rw (answer-value b m e Tick) (by (eqb (number b m e Tick) 0))
+  where
+    by : (t : Bool) → (if_then_else_ {A = ℕ} t 0 0) < 65536
+    by true = omega arith
+    by false = omega arith
+
+abbrev pub ReadBack : Advanced → Type 0
+ReadBack a = decoded (answerNumber (a .progress .answer)) ≡ a .progress .answer
+
+either-way : (t : Bool) (x y : Advanced) → ReadBack x → ReadBack y → ReadBack (if t then x else y)
+either-way true x y h k = h
+either-way false x y h k = k
+
+ticks-decoded : (n d : ℕ) (b : Board) (m e : List ℕ) → ReadBack (advancedFrom n d b m e)
+ticks-decoded zero d b m e = refl
+ticks-decoded (suc n) d b m e =
+    either-way (news b (stepOf b m e Tick .board)) _ _ (decoded-answer (stepOf b m e Tick .answer) (step-refusal b m e Tick) (tick-value b m e))
+    (ticks-decoded n (suc d) (stepOf b m e Tick .board) (memoryAfter b m e Tick) (eepromAfter b m e Tick))
+
+pub advance-decoded : (b : Board) (memory eeprom : List ℕ) (ticks : ℕ) → ReadBack (advancedOf b memory eeprom ticks)
+unfolding advancedOf
+advance-decoded b m e ticks =
+    either-way (eqb (number b m e Tick) 0) _ _ (ticks-decoded ticks 0 b m e)
+    (decoded-answer (Refused (number b m e Tick)) (omega (arith, refusal-bound b m e Tick)) (omega arith))

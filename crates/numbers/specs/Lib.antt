@@ -1,5 +1,9 @@
 pub mod Packed
 pub mod Boards
 pub mod Collecting
+pub mod Turning
+pub mod Typed
+pub mod TypedLaws
+pub mod TypedFresh
 pub mod Decoded
 pub mod Lengths

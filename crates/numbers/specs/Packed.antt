@@ -1,6 +1,8 @@
 -- An answer to a C host: one number of 32 bits, which holds the specification's refusal number and value ("Refusal numbers", "Registers").
 --     bits 31-29   the kind         bits 28-24   the refusal         bits 23-16   0         bits 15-0   the byte or the word
-use Prim.Native.Nat.{ℕ, _+_, _*_, _%_}
+use Prim.Native.Nat.{ℕ, _+_, _*_, _/_, _%_}
+use lib.Dec.{eqb}
+use Rattle.base.specs.Choice.{if_then_else_}
 use Rattle.events.specs.Answers.{refusalNumber, valueRead}
 use Rattle.events.specs.declared.Answer.{Answer}
 use Rattle.events.specs.declared.Answer.the-variants.{Done, Byte, Word, Refused}
@@ -23,6 +25,26 @@ kindOf (Refused number) = 3
 abbrev pub answerNumber : Answer → ℕ
 answerNumber a = packed (kindOf a) (refusalNumber a) (valueRead a)
 
+-- ---- what a host reads off it, by the macros of include/cowriestep.h
+-- the kind, bits 31-29; the refusal, bits 28-24; the byte or the word, bits 15-0
+abbrev pub kindIn : ℕ → ℕ
+kindIn n = n / 0x20000000
+
+abbrev pub refusalIn : ℕ → ℕ
+refusalIn n = n / 0x1000000 % 32
+
+abbrev pub valueIn : ℕ → ℕ
+valueIn n = n % 65536
+
+-- the answer of that kind: 0 done, 1 a byte, 2 a word, 3 refused
+abbrev pub decoded : ℕ → Answer
+decoded n =
+    if eqb (kindIn n) 0 then Done
+    else if eqb (kindIn n) 1 then Byte (valueIn n)
+    else if eqb (kindIn n) 2 then Word (valueIn n)
+    else Refused (refusalIn n)
+
+-- ---- what a step leaves, with its answer as a number
 abbrev pub numberedOf : Outcome → Numbered
 numberedOf o = record { board = o .board; number = answerNumber (o .answer) }
 

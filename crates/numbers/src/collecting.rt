@@ -1,4 +1,5 @@
 // The collector by value, in records of numbers: specs/Collecting.antt.
+use super::TakenAnswer;
 use collector::Access;
 use collector::BusAnswer;
 use collector::Collector;
@@ -6,14 +7,15 @@ use collector::Handed;
 use collector::Sample;
 use collector::Settings;
 use collector::Started;
+use collector::Taken;
 ghost use mathlib.Core.Path.{_≡_};
 ghost use lib.ListN.{length};
 ghost use Rattle.collector_records.specs.Records.{started};
 ghost use Rattle.collector_phases.specs.Accesses.{accessOf};
-ghost use Rattle.collector_replies.specs.Reply.{replied};
+ghost use Rattle.collector_replies.specs.Reply.{told};
 ghost use Rattle.collector.specs.Handed.{refusalNumber};
 ghost use Rattle.scans.specs.Scans.{wholeScans};
-ghost use Rattle.numbers.specs.Collecting.{noCollector, startAnswer, accessNamed, sampleHanded, kindHanded, takenAnswer};
+ghost use Rattle.numbers.specs.Collecting.{noCollector, startAnswer, accessNamed, busAnswer, sampleHanded, kindHanded, takenAnswer};
 
 // A start: the record and 0, or no record and the refusal.
 #[repr(C)]
@@ -31,14 +33,12 @@ pub struct AccessNamed {
     pub refusal: u8,
 }
 
-// The record after an answer, the polls, and what is handed over: 0 nothing, 1 the end of a start, 2 a sample, 3 the last one of a drain, 4 a refusal.
+// What came of an access: 0 the number that the bus brought; any other kind is a refusal of the board.
 #[repr(C)]
-pub struct TakenAnswer {
-    pub collector: Collector,
-    pub polls: u16,
-    pub handed: u8,
+pub struct BusNumbers {
+    pub number: u16,
+    pub kind: u8,
     pub refusal: u8,
-    pub sample: Sample,
 }
 
 // The record of a start that is refused: zeros, which no start makes.
@@ -162,11 +162,10 @@ fn sample_handed(h: Handed) -> Sample
     }
 }
 
-// Takes the answer to that access.
-pub fn take(c: Collector, answer: BusAnswer) -> TakenAnswer
-    ensures { λ r. ⌜ r ≡ takenAnswer (replied c (answer .number)) ⌝ }
+// What the collector answers, in numbers.
+pub fn in_numbers(t: Taken) -> TakenAnswer
+    ensures { λ r. ⌜ r ≡ takenAnswer t ⌝ }
 {
-    let t = collector::take_answer(c, answer);
     let after = t.collector;
     let polls = t.polls;
     let h = t.handed;
@@ -177,6 +176,23 @@ pub fn take(c: Collector, answer: BusAnswer) -> TakenAnswer
         refusal: refusal_handed(h),
         sample: sample_handed(h),
     }
+}
+
+fn bus_answer(brought: BusNumbers) -> BusAnswer
+    ensures { λ r. ⌜ r ≡ busAnswer brought ⌝ }
+{
+    if brought.kind == 0 {
+        BusAnswer::Number(brought.number)
+    } else {
+        BusAnswer::Refused(brought.refusal)
+    }
+}
+
+// Takes what came of that access.
+pub fn take(c: Collector, brought: BusNumbers) -> TakenAnswer
+    ensures { λ r. ⌜ r ≡ takenAnswer (told c (busAnswer brought)) ⌝ }
+{
+    in_numbers(collector::take_answer(c, bus_answer(brought)))
 }
 
 // How many of the samples, from the front, are the part that holds whole scans.

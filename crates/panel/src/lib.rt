@@ -1,6 +1,7 @@
 // What the programs over the board and the collector share: jumpers and ports by number, and what stands on standard output.
 ghost use mathlib.Core.Path.{_≡_};
-ghost use Rattle.panel.specs.Panel.{jumpersOf, portOf};
+ghost use Rattle.machine.specs.Fresh.{jumpersOf};
+ghost use Rattle.panel.specs.Panel.{portOf};
 use libc::STDOUT_FILENO;
 use machine::Jumpers;
 use ports::Port;

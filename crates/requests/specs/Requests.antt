@@ -42,6 +42,10 @@ abbrev pub askedTimer : Requests → Bool → Requests
 askedTimer r falls =
     withFlags r (record { adint = r .flags .adint; dint = r .flags .dint; tint = flag (on (r .flags .tint) || on (r .tinte) && falls) })
 
+-- the board asks for an interrupt while one of the three is set
+abbrev pub asking : Flags → Bool
+asking flags = on (flags .adint) || on (flags .dint) || on (flags .tint)
+
 abbrev pub noFlags : Flags
 noFlags = record { adint = 0; dint = 0; tint = 0 }
 

@@ -1,6 +1,6 @@
 // The settings of requests and the request flags (manual 11.1, 11.2, Base + 6, 7, 8, 9).
 ghost use mathlib.Core.Path.{_≡_};
-ghost use Rattle.requests.specs.Requests.{askedAd, askedLatch, askedTimer, cleared};
+ghost use Rattle.requests.specs.Requests.{askedAd, askedLatch, askedTimer, cleared, asking};
 ghost use Rattle.requests.specs.Registers.{writtenDepth, writtenFifoen, writtenEnables, FIFORST, modeBits, requestBits, freshRequests};
 ghost use Rattle.requests.specs.Working.{requestsWork};
 use converter::channels::Converter;
@@ -55,6 +55,13 @@ pub fn ask_timer(r: Requests, fell: bool) -> Requests
     let mut next = r;
     next.flags = flags;
     next
+}
+
+// Whether a request flag is set: while one is, the board asks for an interrupt.
+pub fn is_asking(flags: Flags) -> bool
+    ensures { λ r. ⌜ r ≡ asking flags ⌝ }
+{
+    (flags.adint == 1) | (flags.dint == 1) | (flags.tint == 1)
 }
 
 // INTRST: the three request flags clear.

@@ -10,15 +10,15 @@ use Rattle.collector_phases.specs.declared.Collector.{Collector}
 use Rattle.collector_phases.specs.Accesses.{accessOf}
 use Rattle.turns.specs.declared.Asked.{Asked}
 use Rattle.turns.specs.declared.Asked.the-variants.{Made, NotMade}
-use Rattle.turns.specs.declared.Brought.{Brought}
-use Rattle.turns.specs.declared.Brought.the-variants.{Answered, NotAnswered}
+use Rattle.collector_answers.specs.declared.BusAnswer.{BusAnswer}
+use Rattle.collector_answers.specs.declared.BusAnswer.the-variants as bus
 use Rattle.turns.specs.declared.Turned.{Turned}
 use Rattle.turns.specs.Turn.{Turning, eventOf, broughtBy, unturned, broughtTo, turnBy}
 use Rattle.turns.specs.Real.{Lent, lent, real, asStruct, lentTurn, Left}
 use Rattle.turns.specs.Hosts.{words}
 
 -- what is brought to the collector does not depend on what stands for the board
-apart : (c : Collector) (l : Lent) (b : Board) (x : Brought) → l .board ≡ b
+apart : (c : Collector) (l : Lent) (b : Board) (x : BusAnswer) → l .board ≡ b
     → asStruct (broughtTo words c b x)
     ≡ record {
       collector = broughtTo words c l x .collector;
@@ -26,19 +26,19 @@ apart : (c : Collector) (l : Lent) (b : Board) (x : Brought) → l .board ≡ b
       polls = broughtTo words c l x .polls;
       handed = broughtTo words c l x .handed;
     }
-apart c l b (Answered a) h = rw h
-apart c l b (NotAnswered n) h = rw h
+apart c l b (bus.Number a) h = rw h
+apart c l b (bus.Refused n) h = rw h
 
-board-stays : (c : Collector) (l : Lent) (x : Brought) → broughtTo words c l x .board ≡ l
-board-stays c l (Answered a) = refl
-board-stays c l (NotAnswered n) = refl
+board-stays : (c : Collector) (l : Lent) (x : BusAnswer) → broughtTo words c l x .board ≡ l
+board-stays c l (bus.Number a) = refl
+board-stays c l (bus.Refused n) = refl
 
 pub made : (c : Collector) (b : Board) (m e : List ℕ) (ev : Event) (o : Outcome) (r : Turned) (m′ e′ : List ℕ)
     → eventOf (accessOf c) ≡ Made ev → o ≡ stepOf b m e ev → m′ ≡ memoryAfter b m e ev → e′ ≡ eepromAfter b m e ev
     → r ≡ asStruct (broughtTo words c (o .board) (broughtBy (o .answer))) → Left (lentTurn c b m e) r m′ e′
 made c b m e ev o r m′ e′ h p q s t =
     let l : Lent = real .stepped (lent b m e) ev in
-    let x : Brought = broughtBy (stepOf b m e ev .answer) in
+    let x : BusAnswer = broughtBy (stepOf b m e ev .answer) in
     rw h
     (record {
       turned = t ∙ rw p (apart c l (stepOf b m e ev .board) x refl);

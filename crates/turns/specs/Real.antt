@@ -14,6 +14,7 @@ use Rattle.board.specs.Begins as conversions
 use Rattle.events.specs.declared.Event.{Event}
 use Rattle.events.specs.declared.Event.the-variants.{WriteByte, ReadByte, ReadWord, ConversionEnd, DinPins, LatchLevel, PortPins, Tick, TransferEnd}
 use Rattle.collector_phases.specs.declared.Collector.{Collector}
+use Rattle.collector_steps.specs.declared.Taken.{Taken}
 use Rattle.turns.specs.declared.Turned.{Turned}
 use Rattle.turns.specs.Machine.{Machine}
 use Rattle.turns.specs.Hosts.{words}
@@ -57,7 +58,15 @@ asStruct t = record { collector = t .collector; board = t .board; polls = t .pol
 abbrev pub lentTurn : Collector → Board → List ℕ → List ℕ → Turning Lent
 lentTurn c b m e = turnOf real words c (lent b m e)
 
+-- the record of the board alone
+abbrev pub turnedIn : Turning Lent → Turned
+turnedIn t = record { collector = t .collector; board = t .board .board; polls = t .polls; handed = t .handed }
+
+-- what the collector answers
+abbrev pub takenIn : Turned → Taken
+takenIn t = record { collector = t .collector; polls = t .polls; handed = t .handed }
+
 pub record Left (t : Turning Lent) (r : Turned) (m e : List ℕ) : Type 0 where
-  pub turned : r ≡ record { collector = t .collector; board = t .board .board; polls = t .polls; handed = t .handed }
+  pub turned : r ≡ turnedIn t
   pub memory : m ≡ t .board .memory
   pub eeprom : e ≡ t .board .eeprom

@@ -13,8 +13,8 @@ use Rattle.collector_steps.specs.declared.Handed.the-variants as handed
 use Rattle.collector_steps.specs.declared.Taken.{Taken}
 use Rattle.turns.specs.declared.Asked.{Asked}
 use Rattle.turns.specs.declared.Asked.the-variants.{Made, NotMade}
-use Rattle.turns.specs.declared.Brought.{Brought}
-use Rattle.turns.specs.declared.Brought.the-variants.{Answered, NotAnswered}
+use Rattle.collector_answers.specs.declared.BusAnswer.{BusAnswer}
+use Rattle.collector_answers.specs.declared.BusAnswer.the-variants as bus
 use Rattle.turns.specs.Machine.{Machine, Host}
 
 -- the event of an access
@@ -24,12 +24,12 @@ eventOf (ReadByte offset) = Made (event.ReadByte offset)
 eventOf (ReadWord offset) = Made (event.ReadWord offset)
 eventOf (NoAccess number) = NotMade number
 
--- what the bus brought; the answer to a write isn't looked at, and 0 stands for it
-abbrev pub broughtBy : Answer → Brought
-broughtBy Done = Answered (record { number = 0 })
-broughtBy (Byte byte) = Answered (record { number = byte })
-broughtBy (Word word) = Answered (record { number = word })
-broughtBy (Refused number) = NotAnswered number
+-- what the board's answer is to the collector; the answer to a write isn't looked at, and 0 stands for it
+abbrev pub broughtBy : Answer → BusAnswer
+broughtBy Done = bus.Number 0
+broughtBy (Byte byte) = bus.Number byte
+broughtBy (Word word) = bus.Number word
+broughtBy (Refused number) = bus.Refused number
 
 -- after a turn: the collector, the board, the polls reported, and what is handed over
 pub record Turning (B : Type 0) : Type 0 where
@@ -46,9 +46,10 @@ unturned c b number = record { collector = c; board = b; polls = c .polls; hande
 abbrev pub takenBy : {B : Type 0} → Taken → B → Turning B
 takenBy taken b = record { collector = taken .collector; board = b; polls = taken .polls; handed = taken .handed }
 
-abbrev pub broughtTo : {B : Type 0} → Host → Collector → B → Brought → Turning B
-broughtTo H c b (Answered a) = takenBy (H .reply c (a .number)) b
-broughtTo H c b (NotAnswered number) = unturned c b number
+-- a refusal is no number that the bus brought
+abbrev pub broughtTo : {B : Type 0} → Host → Collector → B → BusAnswer → Turning B
+broughtTo H c b (bus.Number a) = takenBy (H .reply c a) b
+broughtTo H c b (bus.Refused number) = unturned c b number
 
 abbrev pub turnBy : (M : Machine) (H : Host) → Asked → Collector → M .Board → Turning (M .Board)
 turnBy M H (Made ev) c b = broughtTo H c (M .stepped b ev) (broughtBy (M .answered b ev))

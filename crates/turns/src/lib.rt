@@ -18,12 +18,6 @@ pub enum Asked {
     NotMade(u8),
 }
 
-// What the board's answer is to the collector: what the bus brought, or nothing, with the number by which the board refuses.
-pub enum Brought {
-    Answered(BusAnswer),
-    NotAnswered(u8),
-}
-
 // After a turn: the collector, the board, the polls of the current start (with a gap, of the start that ends), and what is handed over.
 pub struct Turned {
     pub collector: Collector,
@@ -51,17 +45,15 @@ pub fn event_of(access: Access) -> Asked
     }
 }
 
-// What the bus brought. The answer to a write isn't looked at: 0 stands for it.
-pub fn bus_answer(answer: Answer) -> Brought
+// What the board's answer is to the collector. The answer to a write isn't looked at: 0 stands for it.
+pub fn bus_answer(answer: Answer) -> BusAnswer
     ensures { λ r. ⌜ r ≡ broughtBy answer ⌝ }
 {
     match answer {
-        Answer::Done => Brought::Answered(BusAnswer { number: 0 }),
-        Answer::Byte(byte) => Brought::Answered(BusAnswer {
-            number: byte as u16,
-        }),
-        Answer::Word(word) => Brought::Answered(BusAnswer { number: word }),
-        Answer::Refused(number) => Brought::NotAnswered(number),
+        Answer::Done => BusAnswer::Number(0),
+        Answer::Byte(byte) => BusAnswer::Number(byte as u16),
+        Answer::Word(word) => BusAnswer::Number(word),
+        Answer::Refused(number) => BusAnswer::Refused(number),
     }
 }
 
@@ -77,11 +69,11 @@ fn without_answer(collector: Collector, board: Board, number: u8) -> Turned
     }
 }
 
-// The collector takes what was brought.
-fn with_answer(collector: Collector, board: Board, answer: BusAnswer) -> Turned
-    ensures { λ r. ⌜ r ≡ asStruct (takenBy (words .reply collector (answer .number)) board) ⌝ }
+// The collector takes the number that was brought.
+fn with_answer(collector: Collector, board: Board, number: u16) -> Turned
+    ensures { λ r. ⌜ r ≡ asStruct (takenBy (words .reply collector number) board) ⌝ }
 {
-    let taken = collector::take_answer(collector, answer);
+    let taken = collector::take_answer(collector, BusAnswer::Number(number));
     let after = taken.collector;
     let handed = taken.handed;
     Turned {
@@ -96,8 +88,8 @@ fn hand_over(collector: Collector, board: Board, answer: Answer) -> Turned
     ensures { λ r. ⌜ r ≡ asStruct (broughtTo words collector board (broughtBy answer)) ⌝ }
 {
     match bus_answer(answer) {
-        Brought::Answered(number) => with_answer(collector, board, number),
-        Brought::NotAnswered(number) => without_answer(collector, board, number),
+        BusAnswer::Number(number) => with_answer(collector, board, number),
+        BusAnswer::Refused(number) => without_answer(collector, board, number),
     }
 }
 

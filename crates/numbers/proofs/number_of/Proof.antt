@@ -1,6 +1,7 @@
 -- `numbers::number_of` meets its contract. Assumes nothing.
 use native.Mathlib.Omega.{arith}
 use borrow.Author.Needs.{needs}
+use Rattle.numbers.proofs.Arms.{done-told, byte-told, word-told, refusal-told}
 use Rattle.numbers.proofs.number_of.Statement.{statement}
 use Rattle.numbers.proofs.number_of.Tie as tie
 
@@ -19,8 +20,8 @@ number-of-spec =
     (λ c. search needs)
     (λ c. search needs)
     (λ c. search needs)
-    (λ c. simp (c .enum-told .given .1))
-    (λ c. simp (c .before .answer .given .1))
-    (λ c. simp (c .before .answer2 .given .1))
-    (λ c. simp (c .before .answer3 .given .1) (omega arith))
+    (λ c. done-told (c .enum-told .given .1))
+    (λ c. byte-told (c .before .answer .given .1) (omega arith))
+    (λ c. word-told (c .before .answer2 .given .1) (omega arith))
+    (λ c. refusal-told (c .before .answer3 .given .1))
     in tie.close met

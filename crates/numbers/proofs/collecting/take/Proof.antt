@@ -10,6 +10,5 @@ take-spec =
     (λ c κs. search needs)
     (λ c κs. search needs)
     (λ c κs. search needs)
-    (λ c κs. search needs)
-    (λ c. simp (c .sample-handed .ensures, c .before .refusal-handed .ensures, c .before .before .kind-handed .ensures, c .before .before .before .before .take-answer .ensures))
+    (λ c. simp (c .in-numbers .ensures, c .before .take-answer .ensures, c .before .before .bus-answer .ensures))
     in tie.close met

@@ -8,5 +8,5 @@ in-numbers-spec =
     let met =
     tie.spec
     (λ c κs. search needs)
-    (λ c. rw (c .number-of .ensures))
+    (λ c. rw (c .number-of .ensures .0))
     in tie.close met

@@ -1,0 +1,83 @@
+-- Stretches of events: a board with its memories, and what a row of events, each a step of its own, leaves of them. What is refused changes nothing, so a
+-- row may hold refused events.
+use Prim.Native.Nat.{ℕ, _+_}
+use mathlib.Core.Path.{_≡_}
+use mathlib.Core.Bool.{Bool, false, _&&_}
+use mathlib.Core.List.{List, [], _∷_}
+use lib.ListN.{length, replicate}
+use lib.Dec.{eqb}
+use Rattle.fifo.specs.Queue.{layout, emptyFifo}
+use Rattle.machine.specs.Fresh.{freshBoard}
+use Rattle.machine.specs.declared.Jumpers.{Jumpers}
+use Rattle.board_refusal.specs.Working.{WorkingBoard}
+use Rattle.board_step.specs.Step.{number, stepOf, memoryAfter, eepromAfter}
+use Rattle.board_advance.specs.Advances.{State}
+use Rattle.board.specs.Begins.{resets}
+use Rattle.events.specs.declared.Answer.{Answer}
+use Rattle.events.specs.declared.Event.{Event}
+use Rattle.events.specs.declared.Event.the-variants.{WriteByte, ReadByte, ReadWord, ConversionEnd, DinPins, LatchLevel, PortPins, Tick, TransferEnd}
+
+-- a working board, with an EEPROM of the right length; the sample memory of a working board has its own
+pub record Works (s : State) : Type 0 where
+  pub working : WorkingBoard (s .board) (s .memory)
+  pub long : length (s .eeprom) ≡ 128
+
+-- ---- one event: the number that it is refused by (0: it is not), its answer, and what it leaves
+abbrev pub numberAt : State → Event → ℕ
+numberAt s event = number (s .board) (s .memory) (s .eeprom) event
+
+abbrev pub answerAt : State → Event → Answer
+answerAt s event = stepOf (s .board) (s .memory) (s .eeprom) event .answer
+
+abbrev pub afterEvent : State → Event → State
+afterEvent s event = record {
+  board = stepOf (s .board) (s .memory) (s .eeprom) event .board;
+  memory = memoryAfter (s .board) (s .memory) (s .eeprom) event;
+  eeprom = eepromAfter (s .board) (s .memory) (s .eeprom) event;
+}
+
+-- ---- a row of them, the first first
+abbrev pub afterEvents : State → List Event → State
+afterEvents s [] = s
+afterEvents s (event ∷ events) = afterEvents (afterEvent s event) events
+
+-- ---- the ticks in a row
+abbrev pub ticksOf : Event → ℕ
+ticksOf (WriteByte offset value) = 0
+ticksOf (ReadByte offset) = 0
+ticksOf (ReadWord offset) = 0
+ticksOf (ConversionEnd code) = 0
+ticksOf (DinPins d) = 0
+ticksOf (LatchLevel level) = 0
+ticksOf (PortPins q v) = 0
+ticksOf Tick = 1
+ticksOf TransferEnd = 0
+
+abbrev pub ticksIn : List Event → ℕ
+ticksIn [] = 0
+ticksIn (event ∷ events) = ticksOf event + ticksIn events
+
+-- ---- rows without a reset, and without a write of 5 that is taken
+abbrev pub NoReset : List Event → Type 0
+NoReset [] = Unit {0}
+NoReset (event ∷ events) = (resets event ≡ false) × NoReset events
+
+-- whether an event is a write of 5
+abbrev pub isLoad : Event → Bool
+isLoad (WriteByte offset value) = eqb offset 5
+isLoad (ReadByte offset) = false
+isLoad (ReadWord offset) = false
+isLoad (ConversionEnd code) = false
+isLoad (DinPins d) = false
+isLoad (LatchLevel level) = false
+isLoad (PortPins q v) = false
+isLoad Tick = false
+isLoad TransferEnd = false
+
+abbrev pub NoLoad : State → List Event → Type 0
+NoLoad s [] = Unit {0}
+NoLoad s (event ∷ events) = (isLoad event && eqb (numberAt s event) 0 ≡ false) × NoLoad (afterEvent s event) events
+
+-- ---- a fresh board with fresh stores
+abbrev pub freshState : Jumpers → Bool → State
+freshState j zeroscale = record { board = freshBoard j zeroscale; memory = layout emptyFifo []; eeprom = replicate 128 0 }
