@@ -13,6 +13,8 @@ import re
 import subprocess
 import sys
 
+import columns
+
 COMPUTED, SEARCHED = 'use mathlib.Core.Path.{refl}\n', 'use borrow.Author.Needs.{needs}\n'
 
 
@@ -48,6 +50,7 @@ def write(crate):
     for path in written:
         if re.search(rf'{re.escape(path)}:\d+:\d+: error', said):
             by_search(path)
+    columns.settle(written)
     print(f'{crate}: {len(written)} proof files')
 
 

@@ -75,7 +75,7 @@ def named_runs():
         path = os.path.join(ROOT, *path)
         return open(path, "rb").read() if os.path.exists(path) else b""
 
-    names = ["timer_cases", "board_cases", "collector_cases", "volts_cases", "archive_cases", "session"]
+    names = ["cases_timer", "cases_board", "cases_collector", "cases_volts", "cases_archive", "session"]
     runs = [(n, n, text("crates", n, "stdin"), text("crates", n, "stdout")) for n in names]
     return runs + [("session", "session/" + n, text("tests", "session", n + ".in"), text("tests", "session", n + ".out")) for n in ("refusals", "bad")]
 
@@ -86,11 +86,11 @@ def longer_runs():
         return subprocess.run([sys.executable, script, *words], input=given, stdout=subprocess.PIPE, check=True).stdout
 
     worlds = os.path.join(ROOT, "tests", "archive", "worlds.txt")
-    runs = [("archive_cases", "worlds", open(worlds, "rb").read(), said("archive/expected.py", worlds))]
+    runs = [("cases_archive", "worlds", open(worlds, "rb").read(), said("archive/expected.py", worlds))]
     for model, lines in ("timer", 4000), ("collector", 4000), ("board", 2000):
         for seed in "123":
             given = said("models/%s_random.py" % model, seed, str(lines))
-            runs.append((model + "_cases", "random " + model, given, said("models/%s.py" % model, given=given)))
+            runs.append(("cases_" + model, "random " + model, given, said("models/%s.py" % model, given=given)))
     return runs
 
 

@@ -18,6 +18,7 @@ are walk/proof.txt and walk/lending.txt; here is what is filled in.
 import os
 from collections import namedtuple
 
+import columns
 from walk import source, terms
 from walk.terms import chained, listed, loaded, local, paired
 from walk.text import filled
@@ -157,19 +158,21 @@ def write(path, text):
     os.makedirs(os.path.dirname(path), exist_ok=True)
     with open(path, 'w') as out:
         out.write(text)
+    return path
 
 
 def main():
-    types = source.Types()
+    types, written = source.Types(), []
     for family in FAMILIES:
         proofs, functions = f'crates/{family.crate}/proofs', source.thin_functions(family.crate, family.contract)
         said = dict(of_family(family, types), tested=any(function.tested for function in functions))
-        write(f'{proofs}/{family.lending}.antt', filled('lending.txt', said))
+        written.append(write(f'{proofs}/{family.lending}.antt', filled('lending.txt', said)))
         for function in functions:
             own = dict(name=function.name, kebab=function.name.replace('_', '-'), tested=function.tested)
             for of in (of_call, of_parameters, of_locals):
                 own.update(of(function, types))
-            write(f'{proofs}/{function.name}/Proof.antt', filled('proof.txt', {**said, **own}))
+            written.append(write(f'{proofs}/{function.name}/Proof.antt', filled('proof.txt', {**said, **own})))
+    columns.settle(written)
 
 
 if __name__ == '__main__':

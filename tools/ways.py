@@ -26,6 +26,8 @@ import subprocess
 import sys
 import tempfile
 
+import columns
+
 LENT = '(@entry .args .board) (@entry .args .memory .now) (@entry .args .eeprom .now)'
 OPENED = '(ways.opened (@if1 .left) (@is-working .ensures) (@if2 .left))'
 
@@ -106,6 +108,7 @@ def write(crate, function, lines):
     os.makedirs(os.path.dirname(path), exist_ok=True)
     with open(path, 'w', encoding='utf-8') as out:
         out.write('\n'.join(lines) + '\n')
+    return path
 
 
 def main(words):
@@ -116,8 +119,7 @@ def main(words):
         for function in functions:
             write(crate, function, stub(crate, function))
         folder = generated(crate)
-        for function in functions:
-            write(crate, function, proof(crate, function, folder))
+        columns.settle([write(crate, function, proof(crate, function, folder)) for function in functions])
 
 
 if __name__ == '__main__':

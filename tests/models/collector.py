@@ -15,7 +15,7 @@ after a start, otherwise as they stand).
     python3 collector.py < cases > expected
 
 The operations of a line and the shape of their results are those of the case
-program, crates/collector_cases.
+program, crates/cases_collector.
 """
 from collections import deque, namedtuple
 from functools import lru_cache, partialmethod

@@ -103,6 +103,13 @@ CALL = r'let out = ([\w:]+)\(\s*\*board,\s*memory,\s*eeprom,?\s*(.*?),?\s*\);'
 TEST = 'if (memory.len() != 512) | (eeprom.len() != 128) { return 0x62000000; }'
 
 
+def home(path):
+    """Where a function is declared: a crate may pass on another's."""
+    crate, *rest = path.split('::')
+    passed = re.search(rf'^pub use ([\w:]+::{rest[-1]});', '\n'.join(texts(crate)), re.M) if len(rest) == 1 else None
+    return home(passed[1]) if passed else path
+
+
 def thin_functions(crate, contract):
     """The functions of a crate that call `CALLEE(*board, memory, eeprom, ..)` over a lent board and whose contract is this record, in the order written."""
     found = []
@@ -110,7 +117,7 @@ def thin_functions(crate, contract):
         for name, parameters, body in re.findall(r'^pub (?:extern "C" )?fn (\w+)\((.*?)\) -> \w+\n(.*?)^\}', text, re.M | re.S):
             call = re.search(CALL, body, re.S)
             if call and contract + ' ' in body:
-                found.append(thin(name, fields_in(parameters), call.group(1), call.group(2), body, contract))
+                found.append(thin(name, fields_in(parameters), home(call.group(1)), call.group(2), body, contract))
     if not found:
         raise SystemExit(f'tools/walks.py: no function of {crate} calls another over a lent board')
     return found
@@ -119,6 +126,7 @@ def thin_functions(crate, contract):
 def thin(name, parameters, callee, passed, body, contract):
     """The function that passes these arguments on beside what is lent."""
     lent, own = parameters[:3], parameters[3:]
+    body = ' '.join(body.split())
     event = re.search(CONTRACT.replace('CONTRACT', contract), body)
     built = re.match(r'(\w+)::(\w+)(?:, |$)', passed)
     rest = passed[built.end():] if built else passed
@@ -126,4 +134,4 @@ def thin(name, parameters, callee, passed, body, contract):
         raise SystemExit(f'tools/walks.py: {name} is not of the shape that the walks have')
     named = [Variant(*of) for of in re.findall(r'(\w+)\.(\w+)', event.group(1))]
     term = re.sub(r'\w+\.(\w+)', r'\1', event.group(1))
-    return Thin(name, own, callee.split('::'), Variant(*built.groups()) if built else None, term, named, TEST in ' '.join(body.split()))
+    return Thin(name, own, callee.split('::'), Variant(*built.groups()) if built else None, term, named, TEST in body)

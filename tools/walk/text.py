@@ -1,7 +1,7 @@
 """Fills the texts proof.txt and lending.txt.
 
-In them @{name} stands for what is said under that name. Lines between `@if name` and `@end` stay where that is not empty, and those after an `@else`
-where it is. Of the `use` lines stay the names that are used.
+In them @{name} stands for what is said under that name; a line of nothing else goes where that is empty. Lines between `@if name` and `@end` stay where
+that is not empty, and those after an `@else` where it is. Of the `use` lines stay the names that are used.
 """
 import os
 import re
@@ -27,7 +27,7 @@ def chosen(text, said):
             stays = not stays
         elif line == '@end':
             stays = True
-        elif stays:
+        elif stays and (said[line[2:-1]] if re.fullmatch(r'@\{\w+\}', line) else True):
             lines.append(line.rstrip())
     return '\n'.join(lines) + '\n'
 

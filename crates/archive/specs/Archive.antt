@@ -5,17 +5,17 @@ use Prim.Native.Nat.{ℕ}
 use mathlib.Core.List.{List}
 use mathlib.Core.Path.{_≡_, sym, subst}
 use lib.ListN.{length}
-use Rattle.machine.specs.declared.Board.{Board}
+use Rattle.machine_record.specs.declared.Board.{Board}
 use Rattle.board_refusal.specs.Working.{WorkingBoard}
 use Rattle.collector_phases.specs.declared.Collector.{Collector}
 use Rattle.collector_settings.specs.declared.Settings.{Settings}
 use Rattle.collector_records.specs.declared.Started.the-variants.{Begun}
 use Rattle.collector_records.specs.Records.{started}
 use Rattle.collector.specs.Kept.{started-begun}
-use Rattle.turns.specs.Real.{lent, real}
-use Rattle.turns.specs.Hosts.{words}
+use Rattle.board_step.specs.States.{Works}
+use Rattle.archive_turns.specs.Real.{lent, real}
+use Rattle.archive_turns.specs.Hosts.{words}
 use Rattle.archive_demand.specs.Demand.{Demand3}
-use Rattle.archive.specs.RealViews.{Works}
 use Rattle.archive.specs.Real.{real-laws}
 use Rattle.archive_demand.specs.Theorem.{demand3}
 
@@ -24,4 +24,4 @@ pub archive : (b : Board) (memory eeprom : List ℕ) (settings : Settings) (c : 
 archive b memory eeprom settings c w e h =
     let s = started-begun settings c h in
     subst (λ (d : Collector). Demand3 real words (record { board = lent b memory eeprom; collector = d })) (sym (s .0))
-    (demand3 real Works real-laws (lent b memory eeprom) (record { board = w; eeprom = e }) settings (s .1))
+    (demand3 real Works real-laws (lent b memory eeprom) (record { working = w; long = e }) settings (s .1))

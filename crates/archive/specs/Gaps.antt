@@ -3,15 +3,15 @@ use Prim.Native.Nat.{ℕ, _+_}
 use mathlib.Core.Bool.{Bool}
 use mathlib.Core.Path.{_≡_, refl, ap, _∙_}
 use Rattle.base.specs.Choice.{if_then_else_}
-use Rattle.events.specs.declared.Answer.{Answer}
-use Rattle.events.specs.declared.Answer.the-variants.{Done, Byte, Word, Refused}
-use Rattle.events.specs.declared.Event.{Event}
+use Rattle.board_events.specs.declared.Answer.{Answer}
+use Rattle.board_events.specs.declared.Answer.the-variants.{Done, Byte, Word, Refused}
+use Rattle.board_events.specs.declared.Event.{Event}
 use Rattle.collector_phases.specs.declared.Collector.{Collector}
 use Rattle.collector.specs.Handed.{gapMarked}
-use Rattle.turns.specs.declared.Asked.{Asked}
-use Rattle.turns.specs.declared.Asked.the-variants.{Made, NotMade}
-use Rattle.turns.specs.Machine.{Machine, Host}
-use Rattle.turns.specs.Turn.{eventOf, turnBy}
+use Rattle.archive_turns.specs.declared.Asked.{Asked}
+use Rattle.archive_turns.specs.declared.Asked.the-variants.{Made, NotMade}
+use Rattle.archive_turns.specs.Machine.{Machine, Host}
+use Rattle.archive_turns.specs.Turn.{eventOf, turnBy}
 use Rattle.archive_demand.specs.Run.{Happening, turn, world, Run, begin, _▸_, System, gap, after, gapsIn}
 use Rattle.archive.specs.Simulates.{Simulates, mapped, after-works, after-same}
 

@@ -7,11 +7,12 @@ use Rattle.base.specs.Choice.{if_then_else_}
 use Rattle.fifo.specs.Queue.Laws.{queue-clear}
 use Rattle.converter.specs.Registers.{freshConverter}
 use Rattle.converter.specs.Working.{fresh-works}
-use Rattle.turns.specs.Real.{real}
-use Rattle.turns.specs.Hosts.{words}
+use Rattle.board_step.specs.States.{Works}
+use Rattle.archive_turns.specs.Real.{real}
+use Rattle.archive_turns.specs.Hosts.{words}
 use Rattle.archive_demand.specs.Run.{Happening, Run, begin, _▸_, System, next, gap, after, gapsIn}
 use Rattle.archive_demand.specs.Log.{Log, note, blank, log}
-use Rattle.archive.specs.RealViews.{Works, holds}
+use Rattle.archive.specs.RealViews.{holds}
 use Rattle.archive.specs.RealRuns.{holding, real-holding, lentWith, lent-works, heldFrom, heldLog}
 use Rattle.archive.specs.Simulates.{mapped, after-same, log-same}
 use Rattle.archive.specs.Gaps.{gaps-in-same}

@@ -6,22 +6,24 @@ use native.Mathlib.Omega.{arith}
 use lib.Dec.{eqb}
 use lib.ListN.{length}
 use Rattle.fifo.specs.Queue.Laws.{length-queue}
-use Rattle.turns.specs.Real.{Lent, real}
+use Rattle.board.specs.StretchSteps.{works-on}
+use Rattle.board_step.specs.States.{State, Works}
+use Rattle.archive_turns.specs.Real.{real}
 use Rattle.archive_demand.specs.Laws.{Laws}
-use Rattle.archive.specs.RealViews.{Works, step-works, holds, serves}
+use Rattle.archive.specs.RealViews.{holds, serves}
 use Rattle.archive.specs.RealBus as bus
 use Rattle.archive.specs.RealWorld as world
 
-room : (l : Lent) → Works l → length (real .view l .held) ≤ 512
-room l w = omega (arith, length-queue (l .board .fifo) (l .memory) (w .board .fifo), w .board .fifo .held)
+room : (l : State) → Works l → length (real .view l .held) ≤ 512
+room l w = omega (arith, length-queue (l .board .fifo) (l .memory) (w .working .fifo), w .working .fifo .held)
 
-over : (l : Lent) → Works l → real .view l .ovf ≡ true → 512 ≤ length (real .view l .held)
-over l w o = omega (arith, length-queue (l .board .fifo) (l .memory) (w .board .fifo), w .board .fifo .ovf o)
+over : (l : State) → Works l → real .view l .ovf ≡ true → 512 ≤ length (real .view l .held)
+over l w o = omega (arith, length-queue (l .board .fifo) (l .memory) (w .working .fifo), w .working .fifo .ovf o)
 
 pub real-laws : Laws real Works
 real-laws =
     record {
-      works = step-works;
+      works = works-on;
       room = room;
       over = over;
       happens = world.happens;

@@ -15,25 +15,24 @@ use Rattle.fifo.specs.Queue.{queue, poppedFrom, WorkingFifo}
 use Rattle.fifo.specs.Queue.Laws.{length-queue}
 use Rattle.fifo.specs.Flags.{flagBits}
 use Rattle.fifo.specs.declared.Fifo.{Fifo}
-use Rattle.machine.specs.View.{singleEnded}
-use Rattle.machine.specs.Fits.{single-fits}
-use Rattle.machine.specs.declared.Board.{Board}
+use Rattle.machine_record.specs.View.{singleEnded}
+use Rattle.machine_record.specs.Fits.{single-fits}
+use Rattle.machine_record.specs.declared.Board.{Board}
 use Rattle.bus.specs.Place.{placeOf}
-use Rattle.bus.specs.Read.{byteAt, afterRead, fifoBits, adBits}
-use Rattle.bus.specs.Write.{writtenAt}
-use Rattle.bus.specs.Effects.{readEffect, writeEffect}
-use Rattle.bus.specs.Refusals.{writeChecks, readChecks}
+use Rattle.bus.specs.Bytes.{fifoBits, adBits}
+use Rattle.bus.specs.Registers.{writeChecks, writtenAt, writeEffect, readChecks, byteAt, afterRead, readEffect}
 use Rattle.board_refusal.specs.Refusals.{eventChecks}
 use Rattle.board_step.specs.Act.{acted}
 use Rattle.board_step.specs.Step.{ran}
-use Rattle.board.specs.Held.{Held, answered, happened}
+use Rattle.board.specs.Held.{Held, heldAnswer, happened}
 use Rattle.board.specs.Begins.{begins}
-use Rattle.events.specs.declared.Answer.the-variants.{Done, Byte, Word}
-use Rattle.events.specs.declared.Event.the-variants.{WriteByte, ReadByte, ReadWord}
-use Rattle.turns.specs.Real.{Lent, real}
-use Rattle.archive_demand.specs.Bits.{sts-shown, ef-shown, hf-shown, ff-shown, ovf-shown, status-narrow}
+use Rattle.board_events.specs.declared.Answer.the-variants.{Done, Byte, Word}
+use Rattle.board_events.specs.declared.Event.the-variants.{WriteByte, ReadByte, ReadWord}
+use Rattle.board_step.specs.States.{State, Works}
+use Rattle.archive_turns.specs.Real.{real}
+use Rattle.archive_demand.specs.Bits.{StatusFlags, sts-shown, ef-shown, hf-shown, ff-shown, ovf-shown, status-narrow}
 use Rattle.archive_demand.specs.Laws.{clocked, cleared, lowered, raised, leaving, Serves, Polls, Looks, Fetches}
-use Rattle.archive.specs.RealViews.{Works, holds, shown, Makes, serves}
+use Rattle.archive.specs.RealViews.{holds, viewOf, Makes, serves}
 
 -- the bytes that are read at 8 and at 7
 abbrev polled : Board → ℕ
@@ -44,62 +43,62 @@ looked b = fifoBits (b .fifo) (b .converter) (b .requests) (b .registers .page)
 
 module _ (h : Held) where
   -- ---- the writes of a start
-  pub stops : Makes h (WriteByte 9 0) Done (clocked 0 (shown h))
-  unfolding answered happened eventChecks writeChecks placeOf ran acted writtenAt writeEffect begins
+  pub stops : Makes h (WriteByte 9 0) Done (clocked 0 (viewOf h))
+  unfolding heldAnswer happened eventChecks writeChecks placeOf ran acted writtenAt writeEffect begins
   stops = record { answers = refl; leaves = refl; begins-none = refl }
 
-  pub ranges : (n : ℕ) → Makes h (WriteByte 11 n) Done (shown h)
-  unfolding answered happened eventChecks writeChecks placeOf ran acted writtenAt writeEffect begins
+  pub ranges : (n : ℕ) → Makes h (WriteByte 11 n) Done (viewOf h)
+  unfolding heldAnswer happened eventChecks writeChecks placeOf ran acted writtenAt writeEffect begins
   ranges n = record { answers = refl; leaves = refl; begins-none = refl }
 
-  pub clears : Makes h (WriteByte 7 2) Done (cleared (shown h))
-  unfolding answered happened eventChecks writeChecks placeOf ran acted writtenAt writeEffect begins
+  pub clears : Makes h (WriteByte 7 2) Done (cleared (viewOf h))
+  unfolding heldAnswer happened eventChecks writeChecks placeOf ran acted writtenAt writeEffect begins
   clears = record { answers = refl; leaves = refl; begins-none = refl }
 
-  pub lows : (n : ℕ) → n ≤ 31 → Makes h (WriteByte 2 n) Done (lowered n (shown h))
-  unfolding answered happened eventChecks writeChecks placeOf ran acted writtenAt writeEffect begins
+  pub lows : (n : ℕ) → n ≤ 31 → Makes h (WriteByte 2 n) Done (lowered n (viewOf h))
+  unfolding heldAnswer happened eventChecks writeChecks placeOf ran acted writtenAt writeEffect begins
   lows n k =
       record {
         answers = refl;
-        leaves = ap (λ (x : ℕ). lowered x (shown h)) (let e : n % 32 ≡ n = omega arith in e);
+        leaves = ap (λ (x : ℕ). lowered x (viewOf h)) (let e : n % 32 ≡ n = omega arith in e);
         begins-none = refl;
       }
 
-  pub highs : (n : ℕ) → n ≤ 31 → Makes h (WriteByte 3 n) Done (raised n (shown h))
-  unfolding answered happened eventChecks writeChecks placeOf ran acted writtenAt writeEffect begins
+  pub highs : (n : ℕ) → n ≤ 31 → Makes h (WriteByte 3 n) Done (raised n (viewOf h))
+  unfolding heldAnswer happened eventChecks writeChecks placeOf ran acted writtenAt writeEffect begins
   highs n k =
       record {
         answers = refl;
-        leaves = ap (λ (x : ℕ). raised x (shown h)) (let e : n % 32 ≡ n = omega arith in e);
+        leaves = ap (λ (x : ℕ). raised x (viewOf h)) (let e : n % 32 ≡ n = omega arith in e);
         begins-none = refl;
       }
 
-  pub goes : (external : Bool) → Makes h (WriteByte 9 (if external then 2 else 3)) Done (clocked 1 (shown h))
-  unfolding answered happened eventChecks writeChecks placeOf ran acted writtenAt writeEffect begins
+  pub goes : (external : Bool) → Makes h (WriteByte 9 (if external then 2 else 3)) Done (clocked 1 (viewOf h))
+  unfolding heldAnswer happened eventChecks writeChecks placeOf ran acted writtenAt writeEffect begins
   goes true = record { answers = refl; leaves = refl; begins-none = refl }
   goes false = record { answers = refl; leaves = refl; begins-none = refl }
 
   -- ---- the reads
-  poll : Makes h (ReadByte 8) (Byte (polled (h .board))) (shown h)
-  unfolding answered happened eventChecks readChecks placeOf ran acted byteAt afterRead readEffect begins
+  poll : Makes h (ReadByte 8) (Byte (polled (h .board))) (viewOf h)
+  unfolding heldAnswer happened eventChecks readChecks placeOf ran acted byteAt afterRead readEffect begins
   poll = record { answers = refl; leaves = refl; begins-none = refl }
 
-  look : Makes h (ReadByte 7) (Byte (looked (h .board))) (shown h)
-  unfolding answered happened eventChecks readChecks placeOf ran acted byteAt afterRead readEffect begins
+  look : Makes h (ReadByte 7) (Byte (looked (h .board))) (viewOf h)
+  unfolding heldAnswer happened eventChecks readChecks placeOf ran acted byteAt afterRead readEffect begins
   look = record { answers = refl; leaves = refl; begins-none = refl }
 
-  fetch : Makes h (ReadWord 0) (Word (oldestOf (h .samples))) (shown (happened h (ReadWord 0)))
-  unfolding answered happened eventChecks ran acted begins
+  fetch : Makes h (ReadWord 0) (Word (oldestOf (h .samples))) (viewOf (happened h (ReadWord 0)))
+  unfolding heldAnswer happened eventChecks ran acted begins
   fetch = record { answers = refl; leaves = refl; begins-none = refl }
 
   -- the word read takes the oldest sample, and OVF clears
   fetched : (c : ℕ) (rest : List ℕ) → h .samples ≡ c ∷ rest → eqb (h .board .fifo .held) 0 ≡ false
-      → shown (happened h (ReadWord 0)) ≡ leaving rest (shown h)
+      → viewOf (happened h (ReadWord 0)) ≡ leaving rest (viewOf h)
   unfolding happened eventChecks ran acted poppedFrom
   fetched c rest e z = rw (e, z)
 
 -- ---- the poll: STS
-pub polls : (l : Lent) → Works l → Polls real l
+pub polls : (l : State) → Works l → Polls real l
 polls l w =
     record {
       byte = polled (l .board);
@@ -107,7 +106,8 @@ polls l w =
       narrow =
           le-ltb 255 (polled (l .board)) (omega (arith, weight-le (on (l .board .converter .converting)) 128, single-fits (l .board .wiring .inputs)));
       sts =
-          sts-shown (on (l .board .converter .converting)) (l .board .converter .selected % 32) (singleEnded (l .board .wiring .inputs)) (omega arith) (single-fits (l .board .wiring .inputs));
+          sts-shown (on (l .board .converter .converting)) (l .board .converter .selected % 32) (singleEnded (l .board .wiring .inputs)) (omega arith)
+          (single-fits (l .board .wiring .inputs));
     }
 
 -- ---- the look: EF, HF, FF and OVF
@@ -125,39 +125,37 @@ full-flag n h = by (leb 512 n) refl
     by true e = eq-eqb n 512 (omega (arith, leb-true 512 n e))
     by false e = ne-eqb n 512 (λ z. omega (arith, leb-false 512 n e))
 
-pub looks : (l : Lent) → Works l → Looks real l
+pub looks : (l : State) → Works l → Looks real l
 unfolding flagBits
 looks l w =
     let f = l .board .fifo in
-    let e : length (queue f (l .memory)) ≡ f .held = length-queue f (l .memory) (w .board .fifo) in
+    let e : length (queue f (l .memory)) ≡ f .held = length-queue f (l .memory) (w .working .fifo) in
     let n : ℕ = weightOf (on (l .board .requests .fifoen)) 8 + weightOf (on (l .board .converter .scanen)) 4 in
     let m : ℕ = l .board .registers .page % 4 in
     let r : n + m ≤ 15 = omega (arith, weight-le (on (l .board .requests .fifoen)) 8, weight-le (on (l .board .converter .scanen)) 4) in
-    let E = eqb (f .held) 0 in
-    let H = leb 256 (f .held) in
-    let F = eqb (f .held) 512 in
+    let s : StatusFlags = record { ef = eqb (f .held) 0; hf = leb 256 (f .held); ff = eqb (f .held) 512; ovf = on (f .ovf) } in
     record {
       byte = looked (l .board);
       serves = serves l _ _ _ w (look (holds l));
-      narrow = le-ltb 255 (looked (l .board)) (status-narrow E H F (on (f .ovf)) n m r);
-      ef = ef-shown E H F (on (f .ovf)) n m r ∙ empty-flag (f .held) ∙ ap (λ (k : ℕ). leb k 0) (sym e);
-      hf = hf-shown E H F (on (f .ovf)) n m r ∙ ap (λ (k : ℕ). leb 256 k) (sym e);
-      ff = ff-shown E H F (on (f .ovf)) n m r ∙ full-flag (f .held) (w .board .fifo .held) ∙ ap (λ (k : ℕ). leb 512 k) (sym e);
-      ovf = ovf-shown E H F (on (f .ovf)) n m r;
+      narrow = le-ltb 255 (looked (l .board)) (status-narrow s n m r);
+      ef = ef-shown s n m r ∙ empty-flag (f .held) ∙ ap (λ (k : ℕ). leb k 0) (sym e);
+      hf = hf-shown s n m r ∙ ap (λ (k : ℕ). leb 256 k) (sym e);
+      ff = ff-shown s n m r ∙ full-flag (f .held) (w .working .fifo .held) ∙ ap (λ (k : ℕ). leb 512 k) (sym e);
+      ovf = ovf-shown s n m r;
     }
 
 -- ---- the word read
 some-held : (f : Fifo) (m : List ℕ) (c : ℕ) (rest : List ℕ) → WorkingFifo f m → queue f m ≡ c ∷ rest → eqb (f .held) 0 ≡ false
 some-held f m c rest w e = ne-eqb (f .held) 0 (λ z. omega (arith, length-queue f m w, ap length e))
 
-pub words : (l : Lent) → Works l → Fetches real l
+pub words : (l : State) → Works l → Fetches real l
 words l w =
-    let s : Serves real l (ReadWord 0) (Word (oldestOf (holds l .samples))) (shown (happened (holds l) (ReadWord 0))) =
+    let s : Serves real l (ReadWord 0) (Word (oldestOf (holds l .samples))) (viewOf (happened (holds l) (ReadWord 0))) =
     serves l _ _ _ w (fetch (holds l)) in
     record {
       word = oldestOf (holds l .samples);
       answers = s .answers;
       begins-none = s .begins-none;
       oldest = λ c rest e. ap oldestOf e;
-      leaves = λ c rest e. s .leaves ∙ fetched (holds l) c rest e (some-held (l .board .fifo) (l .memory) c rest (w .board .fifo) e);
+      leaves = λ c rest e. s .leaves ∙ fetched (holds l) c rest e (some-held (l .board .fifo) (l .memory) c rest (w .working .fifo) e);
     }

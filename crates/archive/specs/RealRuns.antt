@@ -13,25 +13,22 @@ use Rattle.fifo.specs.Flags.{flagBits}
 use Rattle.converter.specs.Channels.{nextChannel}
 use Rattle.converter.specs.Working.{WorkingConverter}
 use Rattle.converter.specs.declared.channels.Converter.{Converter}
-use Rattle.counting_modes.specs.Control.{command, setupOf}
-use Rattle.counting.specs.Counter.{gateMoved}
+use Rattle.counter_modes.specs.Control.{command, setupOf}
+use Rattle.counter_one.specs.Counter.{gateMoved}
 use Rattle.timer.specs.Timer.{moved, clockedIf, gatesMoved}
-use Rattle.machine.specs.Fresh.{freshBoard}
-use Rattle.machine.specs.Parts.{withConverter}
-use Rattle.machine_clock.specs.Clock.{turned}
+use Rattle.machine_record.specs.Fresh.{freshBoard}
+use Rattle.machine_record.specs.Parts.{withConverter}
+use Rattle.machine_clock.specs.Clock.{timerMoved}
 use Rattle.machine_pins.specs.Pins.{dinMoved, din0Clocked, din3Triggered, dinSet}
-use Rattle.machine.specs.Kept.{converter-kept, fresh-working}
-use Rattle.machine.specs.declared.Board.{Board}
-use Rattle.machine.specs.declared.Jumpers.the-variants.{A}
+use Rattle.machine_record.specs.Kept.{converter-kept, fresh-working}
+use Rattle.machine_record.specs.declared.Board.{Board}
+use Rattle.machine_record.specs.declared.Jumpers.the-variants.{A}
 use Rattle.bus.specs.Place.{placeOf}
-use Rattle.bus.specs.Read.{byteAt, afterRead}
-use Rattle.bus.specs.Write.{writtenAt}
-use Rattle.bus.specs.Effects.{readEffect, writeEffect}
-use Rattle.bus.specs.Refusals.{writeChecks, readChecks}
+use Rattle.bus.specs.Registers.{writeChecks, writtenAt, writeEffect, readChecks, byteAt, afterRead, readEffect}
 use Rattle.board_refusal.specs.Refusals.{eventChecks}
 use Rattle.board_step.specs.Act.{acted, eepromActed}
 use Rattle.board_step.specs.Step.{ran}
-use Rattle.board.specs.Held.{Held, answered, happened, step-held}
+use Rattle.board.specs.Held.{Held, heldAnswer, happened, step-held}
 use Rattle.board.specs.Begins.{begins, codeIn}
 use Rattle.collector_phases.specs.declared.Access.{Access}
 use Rattle.collector_settings.specs.Settings.{startRefusal}
@@ -39,12 +36,14 @@ use Rattle.collector_phases.specs.Phases.{phaseOf}
 use Rattle.collector_phases.specs.Fit.{fit}
 use Rattle.collector_phases.specs.Accesses.{accessOf}
 use Rattle.collector_replies.specs.Reply.{replied}
-use Rattle.turns.specs.Machine.{Machine, Host}
-use Rattle.turns.specs.Real.{Lent, real}
+use Rattle.board.specs.StretchSteps.{works-on}
+use Rattle.board_step.specs.States.{State, Works}
+use Rattle.archive_turns.specs.Machine.{Machine, Host}
+use Rattle.archive_turns.specs.Real.{real}
 use Rattle.archive_demand.specs.Run.{Run, System, after}
 use Rattle.archive_demand.specs.Log.{Log, asks, log}
 use Rattle.archive_demand.specs.Demand.{look, wordRead, Either, Demand3}
-use Rattle.archive.specs.RealViews.{Works, step-works, holds, shown, passes, takes-passes}
+use Rattle.archive.specs.RealViews.{holds, viewOf, isPassed, takes-passes}
 use Rattle.archive.specs.Simulates.{Simulates, after-same, log-same}
 use Rattle.archive.specs.Trials.{from}
 
@@ -54,19 +53,19 @@ holding =
     record {
       Board = Held;
       stepped = happened;
-      answered = answered;
-      view = shown;
-      begins = λ h ev. passes h ev && begins (h .board) ev;
-      ends = λ h ev. if passes h ev then codeIn ev else none;
+      answered = heldAnswer;
+      view = viewOf;
+      begins = λ h ev. isPassed h ev && begins (h .board) ev;
+      ends = λ h ev. if isPassed h ev then codeIn ev else none;
     }
 
 pub real-holding : Simulates real holding Works holds
 real-holding =
     record {
-      works = step-works;
+      works = works-on;
       views = λ l. refl;
-      steps = λ l ev w. step-held (l .board) (l .memory) (l .eeprom) ev (w .board) (w .eeprom) .held;
-      answers = λ l ev w. step-held (l .board) (l .memory) (l .eeprom) ev (w .board) (w .eeprom) .answer;
+      steps = λ l ev w. step-held (l .board) (l .memory) (l .eeprom) ev (w .working) (w .long) .held;
+      answers = λ l ev w. step-held (l .board) (l .memory) (l .eeprom) ev (w .working) (w .long) .answer;
       begins = λ l ev w. ap (λ (t : Bool). t && begins (l .board) ev) (takes-passes l ev w);
       ends = λ l ev w. ap (λ (t : Bool). if t then codeIn ev else none) (takes-passes l ev w);
     }
@@ -75,14 +74,14 @@ real-holding =
 abbrev boardWith : Converter → Board
 boardWith c = withConverter (freshBoard A false) c
 
-abbrev pub lentWith : Converter → Lent
+abbrev pub lentWith : Converter → State
 lentWith c = record { board = boardWith c; memory = layout emptyFifo []; eeprom = replicate 128 0 }
 
 pub lent-works : (c : Converter) → WorkingConverter c → Works (lentWith c)
 lent-works c w =
     record {
-      board = record { machine = converter-kept (freshBoard A false) (fresh-working A false) c w; fifo = clear-works };
-      eeprom = refl;
+      working = record { machine = converter-kept (freshBoard A false) (fresh-working A false) c w; fifo = clear-works };
+      long = refl;
     }
 
 abbrev heldWith : Converter → List ℕ → Held
@@ -93,8 +92,8 @@ heldFrom c = heldWith c []
 
 -- ---- what the onlooker writes down of a run on it, and the next access: these compute
 unfoldable pub heldLog : Host → Converter → Run → Log
-unfolding log after accessOf replied fit startRefusal phaseOf answered happened eventChecks writeChecks readChecks placeOf ran acted eepromActed
-    writtenAt writeEffect byteAt afterRead readEffect begins dinSet din3Triggered din0Clocked dinMoved turned moved clockedIf gatesMoved
+unfolding log after accessOf replied fit startRefusal phaseOf heldAnswer happened eventChecks writeChecks readChecks placeOf ran acted eepromActed
+    writtenAt writeEffect byteAt afterRead readEffect begins dinSet din3Triggered din0Clocked dinMoved timerMoved moved clockedIf gatesMoved
     gateMoved command setupOf nextChannel flagBits pushed pushedTo poppedFrom
 heldLog H c r = log holding H (from holding (heldFrom c)) r
 

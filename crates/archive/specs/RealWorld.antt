@@ -10,18 +10,19 @@ use lib.ListN.{length}
 use mir.Syntax.{w16}
 use mir.Val.{SFits}
 use Rattle.base.specs.Flags.{on}
+use Rattle.base.specs.Laws.{both, not-true}
 use Rattle.base.specs.Choice.{if_then_else_}
 use Rattle.fifo.specs.Samples.{oldestOf, pushed}
 use Rattle.fifo.specs.Queue.{pushedTo}
 use Rattle.fifo.specs.Queue.Laws.{length-queue}
 use Rattle.fifo.specs.declared.Fifo.{Fifo}
-use Rattle.converter.specs.Channels.{ended, clockTrigger}
+use Rattle.converter.specs.Channels.{ended, externalTrigger}
 use Rattle.converter.specs.Begins.{trigger-lost}
 use Rattle.converter.specs.Codes.{sampleOf, code-of-sample}
 use Rattle.converter.specs.declared.channels.Converter.{Converter}
 use Rattle.machine_tick.specs.Tick.{dividersTicked, counter0Ticked}
 use Rattle.machine_pins.specs.Pins.{fellFrom, dinMoved, triggersStopped, latchSet, portSet}
-use Rattle.machine.specs.declared.Board.{Board}
+use Rattle.machine_record.specs.declared.Board.{Board}
 use Rattle.ports.specs.declared.Port.{Port}
 use Rattle.board_refusal.specs.Refusals.{eventChecks}
 use Rattle.board_step.specs.Act.{dinLevels, acted}
@@ -29,14 +30,15 @@ use Rattle.board_step.specs.Step.{ran}
 use Rattle.board.specs.Held.{Held, ranHeld, happened}
 use Rattle.board.specs.Begins.{begins, tickBegins}
 use Rattle.board.specs.Conversions.{begun, din-triggered, tick-lost, counter0-same}
-use Rattle.events.specs.declared.Din.{Din}
-use Rattle.events.specs.declared.Event.{Event}
-use Rattle.events.specs.declared.Event.the-variants.{ConversionEnd, DinPins, LatchLevel, PortPins, Tick, TransferEnd}
-use Rattle.turns.specs.Machine.{View}
-use Rattle.turns.specs.Real.{Lent, real}
+use Rattle.board_events.specs.declared.Din.{Din}
+use Rattle.board_events.specs.declared.Event.{Event}
+use Rattle.board_events.specs.declared.Event.the-variants.{ConversionEnd, DinPins, LatchLevel, PortPins, Tick, TransferEnd}
+use Rattle.board_step.specs.States.{State, Works}
+use Rattle.archive_turns.specs.Machine.{View}
+use Rattle.archive_turns.specs.Real.{real}
 use Rattle.archive_demand.specs.World.{World, conversion-end, din-pins, latch-level, port-pins, tick, transfer-end, eventIn}
 use Rattle.archive_demand.specs.Laws.{starting, Happens, quiet, trigger, end}
-use Rattle.archive.specs.RealViews.{Works, holds, shown, passes, HeldHappens, happens-held}
+use Rattle.archive.specs.RealViews.{holds, viewOf, isPassed, HeldHappens, happens-held}
 
 -- what an event that is not refused leaves
 abbrev left : Held → Event → Held
@@ -49,26 +51,24 @@ converted v c = record { converter = c; held = v .held; ovf = v .ovf }
 -- ---- edges and ticks
 -- an event that ends nothing, begins a conversion where the test says so, and else leaves the view
 edge : (h x : Held) (taken test : Bool)
-    → (test ≡ true → (on (h .board .converter .clken) ≡ true) × (on (h .board .converter .converting) ≡ false) × (shown x ≡ starting (shown h)))
-    → (test ≡ false → shown x ≡ shown h)
-    → Happens (taken && test) (if taken then none else none) (shown h) (shown (if taken then x else h))
+    → (test ≡ true → (on (h .board .converter .clken) ≡ true) × (on (h .board .converter .converting) ≡ false) × (viewOf x ≡ starting (viewOf h)))
+    → (test ≡ false → viewOf x ≡ viewOf h)
+    → Happens (taken && test) (if taken then none else none) (viewOf h) (viewOf (if taken then x else h))
 edge h x true true p q = let k = p refl in trigger refl refl (k .0) (k .1) (k .2)
 edge h x true false p q = quiet refl refl (q refl)
 edge h x false test p q = quiet refl refl refl
 
 -- an event that begins and ends nothing
-still : (h x : Held) (taken : Bool) → shown x ≡ shown h
-    → Happens (taken && false) (if taken then none else none) (shown h) (shown (if taken then x else h))
+still : (h x : Held) (taken : Bool) → viewOf x ≡ viewOf h
+    → Happens (taken && false) (if taken then none else none) (viewOf h) (viewOf (if taken then x else h))
 still h x true e = quiet refl refl e
 still h x false e = quiet refl refl refl
 
 -- a clock's trigger that starts a conversion: CLKEN is set, and no conversion runs
-starts-idle : (clken edge converting : Bool) → (clken && edge) && not converting ≡ true → (clken ≡ true) × (converting ≡ false)
-starts-idle true edge false h = (refl, refl)
-starts-idle true true true h = (refl, sym h)
-starts-idle true false true h = (refl, sym h)
-starts-idle false edge true h = (h, sym h)
-starts-idle false edge false h = (h, refl)
+starts-idle : (clken selected falls converting : Bool) → (clken && selected && falls) && not converting ≡ true → (clken ≡ true) × (converting ≡ false)
+starts-idle clken selected falls converting h =
+    let t = both (clken && selected && falls) (not converting) h in
+    (both clken selected (both (clken && selected) falls (t .0) .0) .0, not-true converting (t .1))
 
 module _ (h : Held) where
   din-happens : (d : Din) → HeldHappens h (DinPins d)
@@ -76,43 +76,43 @@ module _ (h : Held) where
   din-happens d =
       let b = h .board in
       let c = h .board .converter in
-      let falls = fellFrom (b .pins .din) (dinLevels d) 8 in
+      let falls = fellFrom (b .pins .din) (dinLevels d) 3 in
       let stopped = triggersStopped (dinMoved b (dinLevels d)) in
       let clksel = on (b .requests .clksel) in
-      edge h (left h (DinPins d)) (passes h (DinPins d)) (begins b (DinPins d))
+      edge h (left h (DinPins d)) (isPassed h (DinPins d)) (begins b (DinPins d))
       (λ e.
-      let i = starts-idle (on (c .clken)) (clksel && false || not clksel && falls && not stopped) (on (c .converting)) e in
-      (i .0, i .1, ap (converted (shown h)) (begun b (oldestOf (h .samples)) (h .eeprom) (DinPins d) e)))
-      (λ e. ap (converted (shown h)) (din-triggered b (dinLevels d) ∙ trigger-lost c (clockTrigger c clksel false falls stopped) e))
+      let i = starts-idle (on (c .clken) && not clksel) falls (not stopped) (on (c .converting)) e in
+      (both (on (c .clken)) (not clksel) (i .0) .0, i .1, ap (converted (viewOf h)) (begun b (oldestOf (h .samples)) (h .eeprom) (DinPins d) e)))
+      (λ e. ap (converted (viewOf h)) (din-triggered b (dinLevels d) ∙ trigger-lost c (externalTrigger c clksel falls stopped) e))
 
   tick-happens : HeldHappens h Tick
   unfolding happened eventChecks ran acted begins
   tick-happens =
       let b = h .board in
-      edge h (left h Tick) (passes h Tick) (begins b Tick)
+      edge h (left h Tick) (isPassed h Tick) (begins b Tick)
       (λ e.
       let i = tick-idle b e in
-      (i .0, i .1, ap (converted (shown h)) (begun b (oldestOf (h .samples)) (h .eeprom) Tick e)))
-      (λ e. ap (converted (shown h)) (tick-lost b e))
+      (i .0, i .1, ap (converted (viewOf h)) (begun b (oldestOf (h .samples)) (h .eeprom) Tick e)))
+      (λ e. ap (converted (viewOf h)) (tick-lost b e))
     where
       tick-idle : (b : Board) → tickBegins b ≡ true → (on (b .converter .clken) ≡ true) × (on (b .converter .converting) ≡ false)
       tick-idle b e =
           let c = counter0Ticked (dividersTicked b) in
-          let i = starts-idle (on (c .converter .clken)) _ (on (c .converter .converting)) e in
+          let i = starts-idle (on (c .converter .clken)) _ _ (on (c .converter .converting)) e in
           (ap (λ (x : Converter). on (x .clken)) (sym (counter0-same b)) ∙ i .0, ap (λ (x : Converter). on (x .converting)) (sym (counter0-same b)) ∙ i .1)
 
   -- ---- what touches neither conversions nor samples
   latch-happens : (level : ℕ) → HeldHappens h (LatchLevel level)
   unfolding happened eventChecks ran acted begins latchSet
-  latch-happens level = still h (left h (LatchLevel level)) (passes h (LatchLevel level)) refl
+  latch-happens level = still h (left h (LatchLevel level)) (isPassed h (LatchLevel level)) refl
 
   port-happens : (q : Port) (v : ℕ) → HeldHappens h (PortPins q v)
   unfolding happened eventChecks ran acted begins portSet
-  port-happens q v = still h (left h (PortPins q v)) (passes h (PortPins q v)) refl
+  port-happens q v = still h (left h (PortPins q v)) (isPassed h (PortPins q v)) refl
 
   transfer-happens : HeldHappens h TransferEnd
   unfolding happened eventChecks ran acted begins
-  transfer-happens = still h (left h TransferEnd) (passes h TransferEnd) refl
+  transfer-happens = still h (left h TransferEnd) (isPassed h TransferEnd) refl
 
 -- ---- an end
 -- the memory's record after it, told by the samples held
@@ -132,7 +132,7 @@ end-happens h code fits e = by (on (h .board .converter .converting)) refl
   where
     by : (t : Bool) → on (h .board .converter .converting) ≡ t
         → Happens (eqb (if not t then 4 else 0) 0 && begins (h .board) (ConversionEnd code)) (if eqb (if not t then 4 else 0) 0 then some code else none)
-        (shown h) (shown (if eqb (if not t then 4 else 0) 0 then left h (ConversionEnd code) else h))
+        (viewOf h) (viewOf (if eqb (if not t then 4 else 0) 0 then left h (ConversionEnd code) else h))
     by true k =
         end code (code-of-sample code fits) refl refl k
         (ap (λ (o : Bool). record { converter = ended (h .board .converter); held = pushed (h .samples) (sampleOf code); ovf = o })
@@ -148,6 +148,6 @@ held-happens h (port-pins q v) e = port-happens h q v
 held-happens h tick e = tick-happens h
 held-happens h transfer-end e = transfer-happens h
 
-pub happens : (l : Lent) (w : World) → Works l
+pub happens : (l : State) (w : World) → Works l
     → Happens (real .begins l (eventIn w)) (real .ends l (eventIn w)) (real .view l) (real .view (real .stepped l (eventIn w)))
-happens l w k = happens-held l (eventIn w) k (held-happens (holds l) w (length-queue (l .board .fifo) (l .memory) (k .board .fifo)))
+happens l w k = happens-held l (eventIn w) k (held-happens (holds l) w (length-queue (l .board .fifo) (l .memory) (k .working .fifo)))

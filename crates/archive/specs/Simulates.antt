@@ -5,19 +5,19 @@ use mathlib.Core.List.{List}
 use mathlib.Core.Option.{Option}
 use mathlib.Core.Path.{_≡_, refl, ap, _∙_}
 use lib.IntN.{ℤ}
-use Rattle.events.specs.Answers.{valueRead}
-use Rattle.events.specs.declared.Answer.{Answer}
-use Rattle.events.specs.declared.Event.{Event}
+use Rattle.board_events.specs.Answers.{valueRead}
+use Rattle.board_events.specs.declared.Answer.{Answer}
+use Rattle.board_events.specs.declared.Event.{Event}
 use Rattle.collector_phases.specs.declared.Access.{Access}
 use Rattle.collector_phases.specs.declared.Collector.{Collector}
-use Rattle.collector_answers.specs.declared.Sample.{Sample}
+use Rattle.samples.specs.declared.Sample.{Sample}
 use Rattle.collector.specs.Handed.{samplesOf, gapMarked}
-use Rattle.turns.specs.declared.Asked.{Asked}
-use Rattle.turns.specs.declared.Asked.the-variants.{Made, NotMade}
+use Rattle.archive_turns.specs.declared.Asked.{Asked}
+use Rattle.archive_turns.specs.declared.Asked.the-variants.{Made, NotMade}
 use Rattle.collector_answers.specs.declared.BusAnswer.{BusAnswer}
 use Rattle.collector_answers.specs.declared.BusAnswer.the-variants as bus
-use Rattle.turns.specs.Machine.{View, Machine, Host}
-use Rattle.turns.specs.Turn.{eventOf, Turning, broughtBy, broughtTo, turnBy}
+use Rattle.archive_turns.specs.Machine.{View, Machine, Host}
+use Rattle.archive_turns.specs.Turn.{eventOf, Turning, broughtBy, broughtTo, turnBy}
 use Rattle.archive_demand.specs.World.{eventIn}
 use Rattle.archive_demand.specs.Run.{Happening, turn, world, Run, begin, _▸_, System, next, after}
 use Rattle.archive_demand.specs.Log.{Log, noteWorld, noteTurn, bringsBy, beginsBy, selected, note, log}

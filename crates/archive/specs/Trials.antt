@@ -7,7 +7,7 @@ use Rattle.collector_settings.specs.declared.Settings.{Settings}
 use Rattle.collector_records.specs.declared.Started.the-variants.{Begun}
 use Rattle.collector_settings.specs.Settings.{startRefusal}
 use Rattle.collector_records.specs.Records.{begun, started}
-use Rattle.turns.specs.Machine.{Machine}
+use Rattle.archive_turns.specs.Machine.{Machine}
 use Rattle.archive_demand.specs.World.{World, conversion-end, din-pins}
 use Rattle.archive_demand.specs.Run.{turn, world, Run, begin, _▸_, System}
 
@@ -26,8 +26,8 @@ from M b = record { board = b; collector = begun settings }
 abbrev pub din : ℕ → World
 din lines = din-pins (record { lines = lines })
 
-abbrev pub ends : ℕ → World
-ends n = conversion-end (pos (n % 32768)) (record { sfits = omega arith })
+abbrev pub endsWith : ℕ → World
+endsWith n = conversion-end (pos (n % 32768)) (record { sfits = omega arith })
 
 -- ---- runs
 -- 9←0, one poll, five writes
@@ -36,7 +36,7 @@ start = begin ▸ turn ▸ turn ▸ turn ▸ turn ▸ turn ▸ turn ▸ turn
 
 -- DIN3 rises and falls, and the conversion that this begins ends
 abbrev pub sampled : ℕ → Run → Run
-sampled n r = r ▸ world (din 15) ▸ world (din 7) ▸ world (ends n)
+sampled n r = r ▸ world (din 15) ▸ world (din 7) ▸ world (endsWith n)
 
 -- n times, with the codes 0 to n - 1
 unfoldable pub samples : ℕ → Run → Run
@@ -44,6 +44,6 @@ samples zero r = r
 samples (suc n) r = sampled n (samples n r)
 
 -- n turns
-unfoldable pub turned : ℕ → Run → Run
-turned zero r = r
-turned (suc n) r = turned n r ▸ turn
+unfoldable pub turnsMore : ℕ → Run → Run
+turnsMore zero r = r
+turnsMore (suc n) r = turnsMore n r ▸ turn

@@ -13,23 +13,23 @@ use Rattle.converter.specs.Codes.{sampleOf}
 use Rattle.converter.specs.Registers.{freshConverter}
 use Rattle.converter.specs.Working.{WorkingConverter, fresh-works}
 use Rattle.converter.specs.declared.channels.Converter.{Converter}
-use Rattle.board.specs.Held.{Held, answered, happened}
+use Rattle.board.specs.Held.{Held, heldAnswer, happened}
 use Rattle.collector_phases.specs.declared.Access.the-variants.{WriteByte, NoAccess}
 use Rattle.collector_phases.specs.declared.Collector.{Collector}
 use Rattle.collector_phases.specs.declared.Phase.the-variants.{Poll, Take}
-use Rattle.collector_answers.specs.declared.Sample.{Sample}
+use Rattle.samples.specs.declared.Sample.{Sample}
 use Rattle.collector_steps.specs.declared.Taken.{Taken}
 use Rattle.collector_phases.specs.Phases.{number}
 use Rattle.collector_records.specs.Records.{begun}
 use Rattle.collector_phases.specs.Accesses.{accessOf}
 use Rattle.collector_replies.specs.Reply.{replied}
-use Rattle.turns.specs.Machine.{Machine, Host}
-use Rattle.turns.specs.Real.{real}
-use Rattle.turns.specs.Hosts.{words}
+use Rattle.archive_turns.specs.Machine.{Machine, Host}
+use Rattle.archive_turns.specs.Real.{real}
+use Rattle.archive_turns.specs.Hosts.{words}
 use Rattle.archive_demand.specs.Run.{turn, world, Run, _▸_}
 use Rattle.archive_demand.specs.Demand.{look, wordRead, Either, first, second, Demand3}
 use Rattle.archive.specs.RealRuns.{holding, lentWith, heldFrom, heldLog, heldAccess, in-order-held, goes-on-held}
-use Rattle.archive.specs.Trials.{from, ends, start, sampled, samples}
+use Rattle.archive.specs.Trials.{from, endsWith, start, sampled, samples}
 
 -- ---- a collector that takes each poll as if STS were 0
 abbrev pub hasty : Host
@@ -44,7 +44,7 @@ converting-works = omega arith
 
 -- a conversion from before the start comes out as the first sample
 abbrev early : Run
-early = start ▸ world (ends 77) ▸ turn ▸ turn
+early = start ▸ world (endsWith 77) ▸ turn ▸ turn
 
 none-begun : {A : Type 0} (y : A) → IsPrefix (y ∷ []) [] → ⊥
 none-begun y p = let e : suc (length (p .0)) ≡ 0 = ap length (p .1) in omega arith
@@ -110,7 +110,7 @@ dropping =
     record {
       Board = Held;
       stepped = λ h ev. dropsFor (holding .ends h ev) h (happened h ev);
-      answered = answered;
+      answered = heldAnswer;
       view = holding .view;
       begins = holding .begins;
       ends = holding .ends;

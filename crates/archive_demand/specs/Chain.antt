@@ -1,21 +1,18 @@
 -- Samples whose channels follow one another, as the collector counts them. Assumes nothing.
-use Prim.Native.Nat.{ℕ, _+_, _≤_, _<_}
+use Prim.Native.Nat.{ℕ, _+_, _≤_}
 use mathlib.Core.Bool.{Bool, true, false}
 use mathlib.Core.List.{List, [], _∷_, _++_}
-use mathlib.Core.Path.{_≡_, refl, sym, ap, subst}
+use mathlib.Core.Path.{_≡_, refl, sym, subst}
 use native.Mathlib.Omega.{arith}
-use borrow.Author.Tests.{eqb-false, leb-true, leb-false, lt-leb}
+use borrow.Author.Tests.{lt-leb}
 use lib.Dec.{eqb, leb}
 use Rattle.base.specs.Choice.{if_then_else_}
-use Rattle.base.specs.Laws.{by-test}
 use Rattle.converter.specs.Channels.{nextChannel}
 use Rattle.collector_settings.specs.declared.Settings.{Settings}
-use Rattle.collector_answers.specs.declared.Sample.{Sample}
+use Rattle.samples.specs.declared.Sample.{Sample}
 use Rattle.collector_phases.specs.Fit.{FitSettings}
-
--- the channel after this one: high goes to low, else one up
-abbrev pub follows : Settings → ℕ → ℕ
-follows t channel = if eqb channel (t .high) then t .low else channel + 1
+use Rattle.collector_records.specs.Records.{follows}
+use Rattle.collector.specs.Kept.{follows-to}
 
 -- the channels of l are a, the one that follows a, and so on, each sample has P, and z follows the last
 abbrev pub Chain : (Sample → Type 0) → Settings → ℕ → List Sample → ℕ → Type 0
@@ -30,22 +27,7 @@ pub snoc : (P : Sample → Type 0) (t : Settings) (a z : ℕ) (l : List Sample) 
     → Chain P t a (l ++ (y ∷ [])) (follows t z)
 snoc P t a z l y c e p = join P t a z (follows t z) l (y ∷ []) c (e, p, refl)
 
--- ---- channels of a range
-pub follows-from : (t : Settings) (n : ℕ) → FitSettings t → t .low ≤ n → t .low ≤ follows t n
-follows-from t n f h = by-test (λ (k : ℕ). t .low ≤ k) (eqb n (t .high)) (λ e. omega arith) (λ e. omega arith)
-
-above : (m n : ℕ) → m ≤ n → (m ≡ n → ⊥) → m + 1 ≤ n
-above m n h f = by (leb (m + 1) n) refl
-  where
-    by : (b : Bool) → leb (m + 1) n ≡ b → m + 1 ≤ n
-    by true t = leb-true _ _ t
-    by false t = absurd (f (let g : n < m + 1 = leb-false (m + 1) n t in omega arith))
-
-pub follows-to : (t : Settings) (n : ℕ) → FitSettings t → n ≤ t .high → follows t n ≤ t .high
-follows-to t n f h =
-    by-test (λ (k : ℕ). k ≤ t .high) (eqb n (t .high)) (λ e. f .order) (λ e. above n (t .high) h (eqb-false _ _ e))
-
--- on a channel of the range the board's selection moves as the collector counts
+-- ---- on a channel of the range the board's selection moves as the collector counts
 pub selection-follows : (t : Settings) (n : ℕ) → FitSettings t → n ≤ t .high → nextChannel (t .low) (t .high) n ≡ follows t n
 unfolding nextChannel
 selection-follows t n f h = by (eqb n (t .high)) refl
@@ -54,6 +36,6 @@ selection-follows t n f h = by (eqb n (t .high)) refl
         → (if b then t .low else if leb 31 n then 0 else n + 1) ≡ (if b then t .low else n + 1)
     by true e = refl
     by false e =
-        let g : n + 1 ≤ t .high = above n (t .high) h (eqb-false _ _ e) in
+        let g : n + 1 ≤ t .high = rw e at (follows-to t n f h) in
         let k : t .high ≤ 31 = f .top in
         rw (lt-leb 31 n (omega arith))

@@ -15,8 +15,8 @@ use Rattle.base.specs.Choice.{if_then_else_}
 use Rattle.converter.specs.Codes.{codeOf}
 use Rattle.collector_phases.specs.declared.Access.{Access}
 use Rattle.collector_phases.specs.declared.Access.the-variants.{WriteByte, ReadByte, ReadWord, NoAccess}
-use Rattle.collector_answers.specs.declared.Sample.{Sample}
-use Rattle.turns.specs.Machine.{Machine, Host}
+use Rattle.samples.specs.declared.Sample.{Sample}
+use Rattle.archive_turns.specs.Machine.{Machine, Host}
 use Rattle.archive_demand.specs.Run.{Happening, turn, Run, begin, _▸_, System, next, given, gap, after, givenIn, gapsIn, turns}
 use Rattle.archive_demand.specs.Log.{Log, asks, log}
 

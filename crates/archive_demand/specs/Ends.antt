@@ -15,13 +15,15 @@ use Rattle.fifo.specs.Samples.{pushed}
 use Rattle.converter.specs.Channels.{idle}
 use Rattle.converter.specs.Codes.{sampleOf, codeOf}
 use Rattle.collector_settings.specs.declared.Settings.{Settings}
-use Rattle.collector_answers.specs.declared.Sample.{Sample}
+use Rattle.samples.specs.declared.Sample.{Sample}
 use Rattle.collector_phases.specs.Fit.{FitSettings}
-use Rattle.turns.specs.Machine.{View}
+use Rattle.archive_turns.specs.Machine.{View}
 use Rattle.archive_demand.specs.Log.{Log, counted, atMostOne, noteWorld}
 use Rattle.archive_demand.specs.Laws.{starting}
-use Rattle.archive_demand.specs.Chain.{follows, join, snoc, follows-from, follows-to, selection-follows}
-use Rattle.archive_demand.specs.Phases.{wordsOf, words-append, Sixteen, Tail, Queue, Loss, no-loss, was-full, Looking, Taking, Draining}
+use Rattle.collector_records.specs.Records.{follows}
+use Rattle.collector.specs.Kept.{follows-from, follows-to}
+use Rattle.archive_demand.specs.Chain.{join, snoc, selection-follows}
+use Rattle.archive_demand.specs.Phases.{wordsOf, words-append, CodeFits, Tail, Queue, Loss, no-loss, was-full, Looking, Taking, Draining}
 
 -- ---- the queue
 pub queue-begin : (t : Settings) (next : ℕ) (v : View) (l : Log) (Q L : List Sample) → FitSettings t → on (v .converter .converting) ≡ false
@@ -51,20 +53,20 @@ abbrev pub sample : ℕ → ℤ → Sample
 sample channel code = record { channel = channel; code = code }
 
 -- the view after an end that begins no other conversion
-abbrev pub settled : ℕ → View → View
-settled c v = record { converter = idle (v .converter); held = pushed (v .held) c; ovf = if ltb (length (v .held)) 512 then v .ovf else true }
+abbrev pub afterEnd : ℕ → View → View
+afterEnd c v = record { converter = idle (v .converter); held = pushed (v .held) c; ovf = if ltb (length (v .held)) 512 then v .ovf else true }
 
 -- an end: one more sample, behind all the others
 pub queue-end : (t : Settings) (next : ℕ) (v : View) (l : Log) (Q L : List Sample) (code : ℤ) (ch : ℕ) → codeOf (sampleOf code) ≡ code
     → on (v .converter .converting) ≡ true → (q : Queue t next v l Q L)
-    → Queue t next (settled (sampleOf code) v) (noteWorld (some code) false ch l) Q (L ++ (sample (q .k) code ∷ []))
+    → Queue t next (afterEnd (sampleOf code) v) (noteWorld (some code) false ch l) Q (L ++ (sample (q .k) code ∷ []))
 queue-end t next v l Q L code ch s e q =
     record {
       m = q .m;
       k = follows t (q .k);
       split = rw (old .0) (ap (λ (u : List Sample). u ++ (sample (q .k) code ∷ [])) (q .split) ∙ regroup);
       queue = q .queue;
-      lost = snoc Sixteen t (q .m) (q .k) L (sample (q .k) code) (q .lost) refl s;
+      lost = snoc CodeFits t (q .m) (q .k) L (sample (q .k) code) (q .lost) refl s;
       tail = (refl, old .1);
       is-low = q .is-low;
       is-high = q .is-high;
@@ -85,7 +87,7 @@ queue-merge t next v l Q L q =
       m = q .k;
       k = q .k;
       split = rw append-nil (q .split);
-      queue = join Sixteen t next (q .m) (q .k) Q L (q .queue) (q .lost);
+      queue = join CodeFits t next (q .m) (q .k) Q L (q .queue) (q .lost);
       lost = refl;
       tail = q .tail;
       is-low = q .is-low;
@@ -99,7 +101,7 @@ queue-merge t next v l Q L q =
 module _ (t : Settings) (next : ℕ) (v : View) (l : Log) (code : ℤ) (ch : ℕ) (s : codeOf (sampleOf code) ≡ code)
     (e : on (v .converter .converting) ≡ true) where
   abbrev v₁ : View
-  v₁ = settled (sampleOf code) v
+  v₁ = afterEnd (sampleOf code) v
 
   abbrev l₁ : Log
   l₁ = noteWorld (some code) false ch l

@@ -3,8 +3,8 @@ use Prim.Native.Nat.{ℕ}
 use mathlib.Core.Bool.{Bool, true, false}
 use mathlib.Core.List.{List, []}
 use mathlib.Core.Path.{_≡_, refl, sym, _∙_, ap, subst}
-use Rattle.events.specs.declared.Answer.{Answer}
-use Rattle.events.specs.declared.Event.{Event}
+use Rattle.board_events.specs.declared.Answer.{Answer}
+use Rattle.board_events.specs.declared.Event.{Event}
 use Rattle.collector_phases.specs.declared.Access.{Access}
 use Rattle.collector_phases.specs.declared.Access.the-variants.{WriteByte, ReadByte, ReadWord, NoAccess}
 use Rattle.collector_phases.specs.declared.Collector.{Collector}
@@ -18,13 +18,13 @@ use Rattle.collector_records.specs.Records.{begun}
 use Rattle.collector.specs.Counts.{step-holds}
 use Rattle.collector.specs.Steps.{step, access-fit}
 use Rattle.collector.specs.Kept.{begun-fit, replied-fit}
-use Rattle.turns.specs.Machine.{Machine}
-use Rattle.turns.specs.declared.Asked.{Asked}
-use Rattle.turns.specs.declared.Asked.the-variants.{Made, NotMade}
+use Rattle.archive_turns.specs.Machine.{Machine}
+use Rattle.archive_turns.specs.declared.Asked.{Asked}
+use Rattle.archive_turns.specs.declared.Asked.the-variants.{Made, NotMade}
 use Rattle.collector_answers.specs.declared.BusAnswer.{BusAnswer}
 use Rattle.collector_answers.specs.declared.BusAnswer.the-variants as bus
-use Rattle.turns.specs.Turn.{eventOf, broughtBy, broughtTo, turnBy, turnOf}
-use Rattle.turns.specs.Hosts.{words}
+use Rattle.archive_turns.specs.Turn.{eventOf, broughtBy, broughtTo, turnBy, turnOf}
+use Rattle.archive_turns.specs.Hosts.{words}
 use Rattle.archive_demand.specs.World.{eventIn}
 use Rattle.archive_demand.specs.Run.{Happening, turn, world, Run, begin, _▸_, System, next, after}
 use Rattle.archive_demand.specs.Log.{Log, asks, note, blank, log, selected}

@@ -12,15 +12,15 @@ use Rattle.base.specs.Choice.{if_then_else_}
 use Rattle.fifo.specs.Samples.{pushed}
 use Rattle.converter.specs.Channels.{started, endStarts, ended}
 use Rattle.converter.specs.Codes.{sampleOf, codeOf}
-use Rattle.converter.specs.Registers.{withRange, withBits}
-use Rattle.events.specs.declared.Answer.{Answer}
-use Rattle.events.specs.declared.Answer.the-variants.{Done, Byte, Word}
-use Rattle.events.specs.declared.Event.{Event}
-use Rattle.events.specs.declared.Event.the-variants.{WriteByte, ReadByte, ReadWord}
+use Rattle.converter.specs.Registers.{withChannels, withBits}
+use Rattle.board_events.specs.declared.Answer.{Answer}
+use Rattle.board_events.specs.declared.Answer.the-variants.{Done, Byte, Word}
+use Rattle.board_events.specs.declared.Event.{Event}
+use Rattle.board_events.specs.declared.Event.the-variants.{WriteByte, ReadByte, ReadWord}
 use Rattle.collector_settings.specs.declared.Settings.{Settings}
 use Rattle.collector_settings.specs.Settings.{clockByte}
 use Rattle.collector_answers.specs.Answers.{wide, STS, EF, HF, FF, OVF}
-use Rattle.turns.specs.Machine.{View, Machine}
+use Rattle.archive_turns.specs.Machine.{View, Machine}
 use Rattle.archive_demand.specs.World.{World, eventIn}
 
 -- ---- what events make of the view
@@ -48,10 +48,10 @@ cleared v = record { converter = withBits (v .converter) 0 (v .converter .clken)
 
 -- the low and the high channel are written: either makes low the selected channel
 abbrev pub lowered : ℕ → View → View
-lowered n v = record { converter = withRange (v .converter) n (v .converter .high); held = v .held; ovf = v .ovf }
+lowered n v = record { converter = withChannels (v .converter) n (v .converter .high); held = v .held; ovf = v .ovf }
 
 abbrev pub raised : ℕ → View → View
-raised n v = record { converter = withRange (v .converter) (v .converter .low) n; held = v .held; ovf = v .ovf }
+raised n v = record { converter = withChannels (v .converter) (v .converter .low) n; held = v .held; ovf = v .ovf }
 
 -- the oldest sample has left
 abbrev pub leaving : List ℕ → View → View

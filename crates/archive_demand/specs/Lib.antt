@@ -9,6 +9,7 @@ pub mod Ends
 pub mod Worlds
 pub mod Sights
 pub mod Turns
+pub mod Fetched
 pub mod Kept
 pub mod Invariant
 pub mod Yields

@@ -8,16 +8,16 @@ use mathlib.Core.Option.{Option, none, some}
 use lib.IntN.{ℤ}
 use lib.Dec.{eqb, leb}
 use Rattle.base.specs.Choice.{if_then_else_}
-use Rattle.events.specs.Answers.{valueRead}
+use Rattle.board_events.specs.Answers.{valueRead}
 use Rattle.collector_phases.specs.declared.Access.{Access}
 use Rattle.collector_phases.specs.declared.Access.the-variants.{WriteByte, ReadByte, ReadWord, NoAccess}
-use Rattle.collector_answers.specs.declared.Sample.{Sample}
+use Rattle.samples.specs.declared.Sample.{Sample}
 use Rattle.collector_answers.specs.Answers.{EF, isFull}
 use Rattle.collector.specs.Handed.{isGo}
-use Rattle.turns.specs.declared.Asked.{Asked}
-use Rattle.turns.specs.declared.Asked.the-variants.{Made, NotMade}
-use Rattle.turns.specs.Machine.{Machine, Host}
-use Rattle.turns.specs.Turn.{eventOf}
+use Rattle.archive_turns.specs.declared.Asked.{Asked}
+use Rattle.archive_turns.specs.declared.Asked.the-variants.{Made, NotMade}
+use Rattle.archive_turns.specs.Machine.{Machine, Host}
+use Rattle.archive_turns.specs.Turn.{eventOf}
 use Rattle.archive_demand.specs.World.{eventIn}
 use Rattle.archive_demand.specs.Run.{Happening, turn, world, Run, begin, _▸_, System, given, gap, after}
 

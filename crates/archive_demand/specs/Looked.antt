@@ -10,13 +10,13 @@ use lib.ListN.{length, length-append, take}
 use lib.Seq.{take-at}
 use Rattle.base.specs.Choice.{if_then_else_}
 use Rattle.base.specs.Laws.{never}
-use Rattle.events.specs.declared.Answer.the-variants.{Byte}
-use Rattle.events.specs.declared.Event.the-variants as event
+use Rattle.board_events.specs.declared.Answer.the-variants.{Byte}
+use Rattle.board_events.specs.declared.Event.the-variants as event
 use Rattle.collector_phases.specs.declared.Access.{Access}
 use Rattle.collector_phases.specs.declared.Access.the-variants.{WriteByte, ReadByte, ReadWord, NoAccess}
 use Rattle.collector_phases.specs.declared.Collector.{Collector}
 use Rattle.collector_settings.specs.declared.Settings.{Settings}
-use Rattle.collector_answers.specs.declared.Sample.{Sample}
+use Rattle.samples.specs.declared.Sample.{Sample}
 use Rattle.collector_steps.specs.declared.Taken.{Taken}
 use Rattle.collector_phases.specs.declared.Phase.{Phase}
 use Rattle.collector_phases.specs.declared.Phase.the-variants.{Stop, Poll, Range, Clear, Low, High, Go, Look, Take, Drain, Stuck, Unknown}
@@ -26,10 +26,11 @@ use Rattle.collector_phases.specs.Accesses.{accessOf}
 use Rattle.collector_replies.specs.Reply.{replied}
 use Rattle.collector.specs.Handed.{samplesOf, gapMarked}
 use Rattle.collector.specs.Steps.{Step, access-fit}
-use Rattle.collector.specs.Steps.{poll-wide, poll-free, poll-again, poll-last, ranged, cleared, lowered, raised, went, look-wide, look-contradicts, look-empty, look-full, look-few}
-use Rattle.turns.specs.Machine.{View, Machine}
-use Rattle.turns.specs.Turn.{eventOf, turnBy}
-use Rattle.turns.specs.Hosts.{words}
+use Rattle.collector.specs.Steps.{poll-wide, poll-free, poll-again, poll-last, ranged, cleared, lowered, raised, went, look-wide, look-contradicts, look-empty}
+use Rattle.collector.specs.Steps.{look-full, look-few}
+use Rattle.archive_turns.specs.Machine.{View, Machine}
+use Rattle.archive_turns.specs.Turn.{eventOf, turnBy}
+use Rattle.archive_turns.specs.Hosts.{words}
 use Rattle.archive_demand.specs.Run.{Happening, turn, world, Run, begin, _▸_, System, turning, next, given, gap, after, givenIn, gapsIn, turns}
 use Rattle.archive_demand.specs.Demand.{codesOf, codesIn, owed, look}
 use Rattle.archive_demand.specs.Laws.{Laws}

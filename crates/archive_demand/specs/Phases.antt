@@ -9,13 +9,14 @@ use Rattle.base.specs.Flags.{on}
 use Rattle.converter.specs.Codes.{sampleOf, codeOf}
 use Rattle.collector_settings.specs.declared.Settings.{Settings}
 use Rattle.collector_phases.specs.declared.Collector.{Collector}
-use Rattle.collector_answers.specs.declared.Sample.{Sample}
+use Rattle.samples.specs.declared.Sample.{Sample}
 use Rattle.collector_phases.specs.declared.Phase.{Phase}
 use Rattle.collector_phases.specs.declared.Phase.the-variants.{Stop, Poll, Range, Clear, Low, High, Go, Look, Take, Drain, Stuck, Unknown}
 use Rattle.collector_phases.specs.Phases.{phaseOf}
-use Rattle.turns.specs.Machine.{View}
+use Rattle.archive_turns.specs.Machine.{View}
 use Rattle.archive_demand.specs.Log.{Log}
-use Rattle.archive_demand.specs.Chain.{follows, Chain}
+use Rattle.collector_records.specs.Records.{follows}
+use Rattle.archive_demand.specs.Chain.{Chain}
 
 -- the 16-bit numbers that samples are in the memory
 abbrev pub wordsOf : List Sample → List ℕ
@@ -30,8 +31,8 @@ length-words [] = refl
 length-words (y ∷ ys) = ap suc (length-words ys)
 
 -- a code of sixteen bits
-abbrev pub Sixteen : Sample → Type 0
-Sixteen y = codeOf (sampleOf (y .code)) ≡ y .code
+abbrev pub CodeFits : Sample → Type 0
+CodeFits y = codeOf (sampleOf (y .code)) ≡ y .code
 
 -- any sample
 abbrev pub Any : Sample → Type 0
@@ -65,8 +66,8 @@ pub record Queue (t : Settings) (next : ℕ) (v : View) (l : Log) (Q L : List Sa
   pub m : ℕ
   pub k : ℕ
   pub split : l .samples ≡ l .handed ++ (Q ++ L)
-  pub queue : Chain Sixteen t next Q m
-  pub lost : Chain Sixteen t m L k
+  pub queue : Chain CodeFits t next Q m
+  pub lost : Chain CodeFits t m L k
   pub tail : Tail t (on (v .converter .converting)) (l .current) (v .converter .selected) k
   pub is-low : v .converter .low ≡ t .low
   pub is-high : v .converter .high ≡ t .high

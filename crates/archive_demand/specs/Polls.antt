@@ -6,8 +6,8 @@ use Rattle.collector_phases.specs.declared.Collector.{Collector}
 use Rattle.collector_records.specs.declared.Started.the-variants.{Begun}
 use Rattle.collector_records.specs.Records.{started}
 use Rattle.collector.specs.Kept.{started-begun}
-use Rattle.turns.specs.Machine.{Machine}
-use Rattle.turns.specs.Hosts.{words}
+use Rattle.archive_turns.specs.Machine.{Machine}
+use Rattle.archive_turns.specs.Hosts.{words}
 use Rattle.archive_demand.specs.Run.{Run, _▸_, turn, System, turning, after}
 use Rattle.archive_demand.specs.Reads.{readsSince}
 use Rattle.archive_demand.specs.ReadsLaws.{reported-after}

@@ -3,17 +3,17 @@
 use Prim.Native.Nat.{ℕ, _+_}
 use mathlib.Core.Bool.{Bool, true, false, _&&_}
 use Rattle.base.specs.Choice.{if_then_else_}
-use Rattle.events.specs.declared.Answer.{Answer}
-use Rattle.events.specs.declared.Answer.the-variants.{Done, Byte, Word, Refused}
+use Rattle.board_events.specs.declared.Answer.{Answer}
+use Rattle.board_events.specs.declared.Answer.the-variants.{Done, Byte, Word, Refused}
 use Rattle.collector_phases.specs.declared.Access.{Access}
 use Rattle.collector_phases.specs.Phases.{reads}
 use Rattle.collector_steps.specs.declared.Handed.{Handed}
 use Rattle.collector.specs.Counts.{beginsStart, answerTaken}
-use Rattle.turns.specs.declared.Asked.{Asked}
-use Rattle.turns.specs.declared.Asked.the-variants.{Made, NotMade}
-use Rattle.turns.specs.Machine.{Machine}
-use Rattle.turns.specs.Hosts.{words}
-use Rattle.turns.specs.Turn.{eventOf}
+use Rattle.archive_turns.specs.declared.Asked.{Asked}
+use Rattle.archive_turns.specs.declared.Asked.the-variants.{Made, NotMade}
+use Rattle.archive_turns.specs.Machine.{Machine}
+use Rattle.archive_turns.specs.Hosts.{words}
+use Rattle.archive_turns.specs.Turn.{eventOf}
 use Rattle.archive_demand.specs.Run.{Run, begin, _▸_, turn, world, System, turning, after}
 use Rattle.archive_demand.specs.Log.{asks}
 
@@ -27,8 +27,8 @@ notRefused (Refused number) = false
 
 -- the reads of offset 8 whose answers were taken, counting on from n and anew at each start, which begins with 9←0: the board answers the read, and
 -- the collector takes the answer
-abbrev pub countedOn : Access → Bool → Handed → ℕ → ℕ
-countedOn x served h n =
+abbrev pub readsOn : Access → Bool → Handed → ℕ → ℕ
+readsOn x served h n =
     if beginsStart x then 0
     else if reads 8 x && (served && answerTaken h) then n + 1
     else n
@@ -46,5 +46,5 @@ module _ (M : Machine) where
   unfoldable pub readsSince : System M → Run → ℕ
   readsSince s begin = 0
   readsSince s (r ▸ turn) =
-      countedOn (asks M words (after M words s r)) (served (after M words s r)) (turning M words (after M words s r) .handed) (readsSince s r)
+      readsOn (asks M words (after M words s r)) (served (after M words s r)) (turning M words (after M words s r) .handed) (readsSince s r)
   readsSince s (r ▸ world w) = readsSince s r

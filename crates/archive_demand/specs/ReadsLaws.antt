@@ -4,9 +4,9 @@ use mathlib.Core.Path.{_≡_, refl, _∙_}
 use mathlib.Core.Bool.{Bool, true, false}
 use lib.Dec.{eqb}
 use Rattle.base.specs.Choice.{if_then_else_}
-use Rattle.events.specs.declared.Answer.{Answer}
-use Rattle.events.specs.declared.Answer.the-variants.{Done, Byte, Word, Refused}
-use Rattle.events.specs.declared.Event.{Event}
+use Rattle.board_events.specs.declared.Answer.{Answer}
+use Rattle.board_events.specs.declared.Answer.the-variants.{Done, Byte, Word, Refused}
+use Rattle.board_events.specs.declared.Event.{Event}
 use Rattle.collector_settings.specs.declared.Settings.{Settings}
 use Rattle.collector_phases.specs.declared.Collector.{Collector}
 use Rattle.collector_phases.specs.declared.Phase.{Phase}
@@ -21,14 +21,14 @@ use Rattle.collector_steps.specs.declared.Handed.the-variants as handed
 use Rattle.collector.specs.Steps.{step, access-fit}
 use Rattle.collector.specs.Kept.{begun-fit, replied-fit}
 use Rattle.collector.specs.Counts.{underway, step-counts, step-holds}
-use Rattle.turns.specs.declared.Asked.{Asked}
-use Rattle.turns.specs.declared.Asked.the-variants.{Made, NotMade}
-use Rattle.turns.specs.Machine.{Machine}
-use Rattle.turns.specs.Hosts.{words}
-use Rattle.turns.specs.Turn.{Turning, eventOf, takenBy, unturned, turnBy}
+use Rattle.archive_turns.specs.declared.Asked.{Asked}
+use Rattle.archive_turns.specs.declared.Asked.the-variants.{Made, NotMade}
+use Rattle.archive_turns.specs.Machine.{Machine}
+use Rattle.archive_turns.specs.Hosts.{words}
+use Rattle.archive_turns.specs.Turn.{Turning, eventOf, takenBy, unturned, turnBy}
 use Rattle.archive_demand.specs.Run.{Run, begin, _▸_, turn, world, System, turning, after}
 use Rattle.archive_demand.specs.Log.{asks}
-use Rattle.archive_demand.specs.Reads.{countedOn, servedBy, served, readsSince}
+use Rattle.archive_demand.specs.Reads.{readsOn, servedBy, served, readsSince}
 
 -- 9←02 and 9←03 begin no start
 run-begins-none : (b : Bool) → eqb (if b then 2 else 3) 0 ≡ false
@@ -37,7 +37,7 @@ run-begins-none false = refl
 
 -- where no answer was brought, the polls of the record are the count
 stays-counts : (c : Collector) (p : Phase) (h : Handed) (n : ℕ) → FitIn p c → (underway p ≡ true → c .polls ≡ n)
-    → c .polls ≡ countedOn (accessIn p (c .settings)) false h n
+    → c .polls ≡ readsOn (accessIn p (c .settings)) false h n
 stays-counts c Stop h n f k = f
 stays-counts c Poll h n f k = k refl
 stays-counts c Range h n f k = k refl
@@ -54,7 +54,7 @@ stays-counts c Unknown h n f k = k refl
 -- what a turn leaves and reports, n reads having been counted before it
 record TurnCounts {B : Type 0} (c : Collector) (z : Bool) (n : ℕ) (t : Turning B) : Type 0 where
   left-fit : FitCollector (t .collector)
-  told : t .polls ≡ countedOn (accessOf c) z (t .handed) n
+  told : t .polls ≡ readsOn (accessOf c) z (t .handed) n
   kept-polls : underway (phaseOf (t .collector .phase)) ≡ true → t .collector .polls ≡ t .polls
 
 module _ {B : Type 0} (c : Collector) (w : FitCollector c) (n : ℕ) (k : underway (phaseOf (c .phase)) ≡ true → c .polls ≡ n) (b : B) where
@@ -93,7 +93,8 @@ module _ (M : Machine) (b : M .Board) (t : Settings) (f : FitSettings t) where
 
   -- the collector is fit, and its record holds the count while a start is under way
   abbrev Counted : Run → Type 0
-  Counted r = FitCollector (standing r .collector) × (underway (phaseOf (standing r .collector .phase)) ≡ true → standing r .collector .polls ≡ readsSince M opening r)
+  Counted r =
+      FitCollector (standing r .collector) × (underway (phaseOf (standing r .collector .phase)) ≡ true → standing r .collector .polls ≡ readsSince M opening r)
 
   turn-after : (r : Run) → Counted r → TurnCounts (standing r .collector) (served M (standing r)) (readsSince M opening r) (turning M words (standing r))
   turn-after r k = turn-counts M (standing r .collector) (k .0) (readsSince M opening r) (k .1) (standing r .board) (eventOf (asks M words (standing r)))

@@ -5,10 +5,10 @@ use mathlib.Core.Bool.{Bool, true, false}
 use mathlib.Core.List.{List, [], _++_}
 use Rattle.base.specs.Choice.{if_then_else_}
 use Rattle.collector_phases.specs.declared.Collector.{Collector}
-use Rattle.collector_answers.specs.declared.Sample.{Sample}
+use Rattle.samples.specs.declared.Sample.{Sample}
 use Rattle.collector.specs.Handed.{samplesOf, gapMarked}
-use Rattle.turns.specs.Machine.{Machine, Host}
-use Rattle.turns.specs.Turn.{Turning, turnOf}
+use Rattle.archive_turns.specs.Machine.{Machine, Host}
+use Rattle.archive_turns.specs.Turn.{Turning, turnOf}
 use Rattle.archive_demand.specs.World.{World, eventIn}
 
 pub data Happening : Type 0 where

@@ -7,7 +7,7 @@ use borrow.Author.Tests.{leb-true, leb-false}
 use lib.Dec.{leb}
 use lib.ListN.{length}
 use Rattle.collector_answers.specs.Answers.{EF, HF, FF, OVF, contradicts, isFull}
-use Rattle.turns.specs.Machine.{Machine}
+use Rattle.archive_turns.specs.Machine.{Machine}
 use Rattle.archive_demand.specs.Laws.{Looks, Laws}
 
 -- with n held

@@ -17,40 +17,42 @@ use Rattle.converter.specs.Channels.{endStarts}
 use Rattle.converter.specs.Codes.{sampleOf}
 use Rattle.converter.specs.Registers.{withBits, statusBits}
 use Rattle.requests.specs.Registers.{FIFORST}
-use Rattle.events.specs.declared.Answer.{Answer}
-use Rattle.events.specs.declared.Answer.the-variants.{Done, Byte, Word}
-use Rattle.events.specs.declared.Event.{Event}
-use Rattle.events.specs.declared.Event.the-variants.{WriteByte, ReadByte, ReadWord, ConversionEnd, DinPins, LatchLevel, PortPins, Tick, TransferEnd}
-use Rattle.turns.specs.Machine.{View, Machine}
-use Rattle.archive_demand.specs.Bits.{statusByte}
+use Rattle.board_events.specs.declared.Answer.{Answer}
+use Rattle.board_events.specs.declared.Answer.the-variants.{Done, Byte, Word}
+use Rattle.board_events.specs.declared.Event.{Event}
+use Rattle.board_events.specs.declared.Event.the-variants.{WriteByte, ReadByte, ReadWord, ConversionEnd, DinPins, LatchLevel, PortPins, Tick, TransferEnd}
+use Rattle.archive_turns.specs.Machine.{View, Machine}
+use Rattle.archive_demand.specs.Bits.{StatusFlags, statusByte}
 use Rattle.archive_demand.specs.Laws.{starting, ending, clocked, lowered, raised, leaving}
 
 -- ---- the bus
 -- 7: SCANEN is stored, also beside FIFORST, which empties the memory and clears OVF
 abbrev pub scanned : View → ℕ → View
 scanned v x =
-    record { converter = withBits (v .converter) (field x 4 2) (v .converter .clken); held = v .held; ovf = v .ovf }
+    record { converter = withBits (v .converter) (field x 2 1) (v .converter .clken); held = v .held; ovf = v .ovf }
 
 abbrev pub emptied : View → View
 emptied v = record { converter = v .converter; held = []; ovf = false }
 
-abbrev pub fifoWritten : View → ℕ → View
-fifoWritten v x = if FIFORST x then emptied (scanned v x) else scanned v x
+abbrev pub fifoControlled : View → ℕ → View
+fifoControlled v x = if FIFORST x then emptied (scanned v x) else scanned v x
 
 -- 2: L4-0; 3: H4-0; 9: CLKEN
 abbrev pub written : View → ℕ → ℕ → View
 written v n x =
     if eqb n 2 then lowered (x % 32) v
     else if eqb n 3 then raised (x % 32) v
-    else if eqb n 7 then fifoWritten v x
-    else if eqb n 9 then clocked (field x 2 2) v
+    else if eqb n 7 then fifoControlled v x
+    else if eqb n 9 then clocked (field x 1 1) v
     else v
 
 -- 7: EF HF FF OVF, SCANEN; 8: STS, single-ended inputs, ADCH4-0
+abbrev pub flagsOf : View → StatusFlags
+flagsOf v =
+    record { ef = leb (length (v .held)) 0; hf = leb 256 (length (v .held)); ff = leb 512 (length (v .held)); ovf = v .ovf }
+
 abbrev pub fifoByte : View → ℕ
-fifoByte v =
-    statusByte (leb (length (v .held)) 0) (leb 256 (length (v .held))) (leb 512 (length (v .held))) (v .ovf)
-    (weightOf (on (v .converter .scanen)) 4) 0
+fifoByte v = statusByte (flagsOf v) (weightOf (on (v .converter .scanen)) 4) 0
 
 abbrev pub adByte : View → ℕ
 adByte v = statusBits (v .converter) + 96

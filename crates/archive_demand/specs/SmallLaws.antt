@@ -17,15 +17,15 @@ use Rattle.fifo.specs.Samples.{oldestOf, pushed}
 use Rattle.converter.specs.Channels.{endStarts}
 use Rattle.converter.specs.Codes.{sampleOf, codeOf, code-of-sample}
 use Rattle.requests.specs.Registers.{FIFORST}
-use Rattle.events.specs.declared.Answer.the-variants.{Done}
-use Rattle.events.specs.declared.Event.{Event}
-use Rattle.events.specs.declared.Event.the-variants.{WriteByte, ReadByte, ReadWord, ConversionEnd, DinPins, LatchLevel, PortPins, Tick, TransferEnd}
-use Rattle.turns.specs.Machine.{View}
+use Rattle.board_events.specs.declared.Answer.the-variants.{Done}
+use Rattle.board_events.specs.declared.Event.{Event}
+use Rattle.board_events.specs.declared.Event.the-variants.{WriteByte, ReadByte, ReadWord, ConversionEnd, DinPins, LatchLevel, PortPins, Tick, TransferEnd}
+use Rattle.archive_turns.specs.Machine.{View}
 use Rattle.archive_demand.specs.World.{World, conversion-end, din-pins, latch-level, port-pins, tick, transfer-end, eventIn}
 use Rattle.archive_demand.specs.Bits.{sts-shown, ef-shown, hf-shown, ff-shown, ovf-shown, status-narrow}
 use Rattle.archive_demand.specs.Laws.{starting, ending, clocked, lowered, raised}
 use Rattle.archive_demand.specs.Laws.{Happens, quiet, trigger, end, Serves, Polls, Looks, Fetches, Laws}
-use Rattle.archive_demand.specs.Small.{small, smallStep, smallBegins, smallEnds, edgeBegins, written, fifoByte, adByte, fetched}
+use Rattle.archive_demand.specs.Small.{small, smallStep, smallBegins, smallEnds, edgeBegins, written, fifoByte, adByte, fetched, flagsOf}
 
 -- ---- a small board works while it holds at most 512 samples, and has OVF only at 512
 pub record SmallWorks (v : View) : Type 0 where
@@ -37,7 +37,8 @@ unfolding pushed
 ending-works v s k = let p = by (ltb (length (v .held)) 512) refl in record { room = p .0; over = p .1 }
   where
     by : (t : Bool) → ltb (length (v .held)) 512 ≡ t
-        → (length (if t then v .held ++ s ∷ [] else v .held) ≤ 512) × ((if t then v .ovf else true) ≡ true → 512 ≤ length (if t then v .held ++ s ∷ [] else v .held))
+        → (length (if t then v .held ++ s ∷ [] else v .held) ≤ 512)
+        × ((if t then v .ovf else true) ≡ true → 512 ≤ length (if t then v .held ++ s ∷ [] else v .held))
     by true e =
         let l : length (v .held ++ s ∷ []) ≡ length (v .held) + 1 = length-append (v .held) (s ∷ []) in
         (omega (arith, ltb-true (length (v .held)) 512 e), λ o. omega (arith, k .over o))
@@ -106,19 +107,16 @@ polls v =
 
 looks : (v : View) → Looks small v
 looks v =
-    let E = leb (length (v .held)) 0 in
-    let H = leb 256 (length (v .held)) in
-    let F = leb 512 (length (v .held)) in
     let n = weightOf (on (v .converter .scanen)) 4 in
     let r : n + 0 ≤ 15 = omega (arith, weight-le (on (v .converter .scanen)) 4) in
     record {
       byte = fifoByte v;
       serves = record { answers = refl; leaves = refl; begins-none = refl };
-      narrow = le-ltb 255 (fifoByte v) (status-narrow E H F (v .ovf) n 0 r);
-      ef = ef-shown E H F (v .ovf) n 0 r;
-      hf = hf-shown E H F (v .ovf) n 0 r;
-      ff = ff-shown E H F (v .ovf) n 0 r;
-      ovf = ovf-shown E H F (v .ovf) n 0 r;
+      narrow = le-ltb 255 (fifoByte v) (status-narrow (flagsOf v) n 0 r);
+      ef = ef-shown (flagsOf v) n 0 r;
+      hf = hf-shown (flagsOf v) n 0 r;
+      ff = ff-shown (flagsOf v) n 0 r;
+      ovf = ovf-shown (flagsOf v) n 0 r;
     }
 
 words : (v : View) → Fetches small v

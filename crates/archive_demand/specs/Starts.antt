@@ -1,15 +1,14 @@
 -- The accesses of a start, and what happens outside a run: the parts `begins`, `polls`, `waits`, `ready` and `only-running` of demand 3. Assumes
 -- nothing.
 use Prim.Native.Nat.{ℕ, zero, suc, _≤_, _<_}
-use mathlib.Core.Bool.{Bool, true, false, true≢false}
-use mathlib.Core.List.{List, [], _∷_}
-use mathlib.Core.Path.{_≡_, refl, sym, _∙_, ap, subst}
+use mathlib.Core.Bool.{true, false, true≢false}
+use mathlib.Core.List.{[]}
+use mathlib.Core.Path.{_≡_, refl, sym, _∙_}
 use native.Mathlib.Omega.{arith}
 use Rattle.base.specs.Flags.{on}
-use Rattle.events.specs.declared.Answer.the-variants.{Done, Byte}
-use Rattle.events.specs.declared.Event.the-variants as event
-use Rattle.collector_phases.specs.declared.Access.{Access}
-use Rattle.collector_phases.specs.declared.Access.the-variants.{WriteByte, ReadByte, ReadWord, NoAccess}
+use Rattle.board_events.specs.declared.Answer.the-variants.{Done}
+use Rattle.board_events.specs.declared.Event.the-variants as event
+use Rattle.collector_phases.specs.declared.Access.the-variants.{WriteByte, ReadByte, NoAccess}
 use Rattle.collector_phases.specs.declared.Collector.{Collector}
 use Rattle.collector_settings.specs.declared.Settings.{Settings}
 use Rattle.collector_steps.specs.declared.Taken.{Taken}
@@ -24,12 +23,12 @@ use Rattle.collector_replies.specs.Reply.{replied}
 use Rattle.collector.specs.Handed.{samplesOf, gapMarked}
 use Rattle.collector.specs.Steps.{Step, access-fit}
 use Rattle.collector.specs.Steps.{stopped, poll-wide, poll-free, poll-again, poll-last, ranged, cleared, lowered, raised, went, stands}
-use Rattle.turns.specs.Machine.{Machine}
-use Rattle.turns.specs.Turn.{Turning, eventOf, turnBy, takenBy}
-use Rattle.turns.specs.Hosts.{words}
-use Rattle.archive_demand.specs.Run.{Happening, turn, world, Run, begin, _▸_, System, turning, next, given, gap, after, turns}
+use Rattle.archive_turns.specs.Machine.{Machine}
+use Rattle.archive_turns.specs.Turn.{takenBy}
+use Rattle.archive_turns.specs.Hosts.{words}
+use Rattle.archive_demand.specs.Run.{turn, world, Run, begin, _▸_, System, turning, next, given, gap, after, turns}
 use Rattle.archive_demand.specs.Demand.{look, Either, first, second}
-use Rattle.archive_demand.specs.Laws.{Laws, Serves}
+use Rattle.archive_demand.specs.Laws.{Laws}
 use Rattle.archive_demand.specs.Invariant.{Sound, sound}
 use Rattle.archive_demand.specs.Yields.{turn-of, step-in}
 
@@ -49,11 +48,11 @@ Starting Stuck = Unit {0}
 Starting Unknown = ⊥
 
 -- a reply that hands nothing over
-pub record Silent (r : Taken) : Type 0 where
+pub record HandsNothing (r : Taken) : Type 0 where
   pub samples : samplesOf (r .handed) ≡ []
   pub gap : gapMarked (r .handed) ≡ false
 
-silent-step : (c : Collector) (a : ℕ) (p : Phase) (r : Taken) → Starting p → Step c a p r → Silent r
+silent-step : (c : Collector) (a : ℕ) (p : Phase) (r : Taken) → Starting p → Step c a p r → HandsNothing r
 silent-step c a Stop r s stopped = record { samples = refl; gap = refl }
 silent-step c a Poll r s (poll-wide e) = record { samples = refl; gap = refl }
 silent-step c a Poll r s (poll-free e f) = record { samples = refl; gap = refl }
@@ -100,7 +99,7 @@ module _ (M : Machine) (Working : M .Board → Type 0) (laws : Laws M Working) w
     abbrev Quietly : Type 0
     Quietly = (given M words x turn ≡ []) × (gap M words x turn ≡ false)
 
-    by-reply : (r : Taken) (b′ : M .Board) → turning M words x ≡ takenBy r b′ → Silent r → Quietly
+    by-reply : (r : Taken) (b′ : M .Board) → turning M words x ≡ takenBy r b′ → HandsNothing r → Quietly
     by-reply r b′ e s = rw e (s .samples, s .gap)
 
     quiet-write : (p : Phase) → phaseOf (c .phase) ≡ p → Starting p → (o n : ℕ) → accessIn p (c .settings) ≡ WriteByte o n
@@ -129,39 +128,28 @@ module _ (M : Machine) (Working : M .Board → Type 0) (laws : Laws M Working) w
         → phaseOf (next M words x turn .collector .phase) ≡ q
     to-phase r b′ q e f = rw e f
 
-    ranged-on : (r : Taken) → Step c 0 Range r → phaseOf (r .collector .phase) ≡ Clear
+    step-on : (n : ℕ) → n < 5 → (r : Taken) → Step c 0 (onward n) r → phaseOf (r .collector .phase) ≡ onward (suc n)
     unfolding phaseOf
-    ranged-on r ranged = refl
-
-    cleared-on : (r : Taken) → Step c 0 Clear r → phaseOf (r .collector .phase) ≡ Low
-    unfolding phaseOf
-    cleared-on r cleared = refl
-
-    lowered-on : (r : Taken) → Step c 0 Low r → phaseOf (r .collector .phase) ≡ High
-    unfolding phaseOf
-    lowered-on r lowered = refl
-
-    raised-on : (r : Taken) → Step c 0 High r → phaseOf (r .collector .phase) ≡ Go
-    unfolding phaseOf
-    raised-on r raised = refl
-
-    went-on : (r : Taken) → Step c 0 Go r → phaseOf (r .collector .phase) ≡ Look
-    unfolding phaseOf
-    went-on r went = refl
+    step-on zero h r ranged = refl
+    step-on (suc zero) h r cleared = refl
+    step-on (suc (suc zero)) h r lowered = refl
+    step-on (suc (suc (suc zero))) h r raised = refl
+    step-on (suc (suc (suc (suc zero)))) h r went = refl
+    step-on (suc (suc (suc (suc (suc n))))) h r s = absurd (omega arith)
 
     onward-turn : (n : ℕ) → n < 5 → phaseOf (c .phase) ≡ onward n → phaseOf (next M words x turn .collector .phase) ≡ onward (suc n)
     onward-turn zero h e =
-        to-phase _ _ Clear (wrote Range e 11 (c .settings .range) refl (laws .ranges b (c .settings .range) wk .answers)) (ranged-on _ (st Range e 0))
-    onward-turn (suc zero) h e = to-phase _ _ Low (wrote Clear e 7 2 refl (laws .clears b wk .answers)) (cleared-on _ (st Clear e 0))
+        to-phase _ _ Clear (wrote Range e 11 (c .settings .range) refl (laws .ranges b (c .settings .range) wk .answers)) (step-on 0 h _ (st Range e 0))
+    onward-turn (suc zero) h e = to-phase _ _ Low (wrote Clear e 7 2 refl (laws .clears b wk .answers)) (step-on 1 h _ (st Clear e 0))
     onward-turn (suc (suc zero)) h e =
         to-phase _ _ High
         (wrote Low e 2 (c .settings .low) refl (laws .lows b (c .settings .low) (omega (arith, fc .settings .order, fc .settings .top)) wk .answers))
-        (lowered-on _ (st Low e 0))
+        (step-on 2 h _ (st Low e 0))
     onward-turn (suc (suc (suc zero))) h e =
         to-phase _ _ Go (wrote High e 3 (c .settings .high) refl (laws .highs b (c .settings .high) (fc .settings .top) wk .answers))
-        (raised-on _ (st High e 0))
+        (step-on 3 h _ (st High e 0))
     onward-turn (suc (suc (suc (suc zero)))) h e =
-        to-phase _ _ Look (wrote Go e 9 (clockByte (c .settings)) refl (laws .goes b (c .settings) wk .answers)) (went-on _ (st Go e 0))
+        to-phase _ _ Look (wrote Go e 9 (clockByte (c .settings)) refl (laws .goes b (c .settings) wk .answers)) (step-on 4 h _ (st Go e 0))
     onward-turn (suc (suc (suc (suc (suc n))))) h e = absurd (omega arith)
 
     free-on : (a : ℕ) (r : Taken) → wide a ≡ false → STS a ≡ false → Step c a Poll r → phaseOf (r .collector .phase) ≡ Range

@@ -6,10 +6,10 @@ use mathlib.Core.Path.{_≡_, refl, sym, _∙_, ap, subst}
 use native.Mathlib.Omega.{arith}
 use lib.ListN.{length}
 use Rattle.collector_phases.specs.declared.Access.{Access}
-use Rattle.collector_phases.specs.declared.Access.the-variants.{ReadByte, ReadWord}
+use Rattle.collector_phases.specs.declared.Access.the-variants.{WriteByte, ReadByte, ReadWord}
 use Rattle.collector_phases.specs.declared.Collector.{Collector}
 use Rattle.collector_settings.specs.declared.Settings.{Settings}
-use Rattle.collector_answers.specs.declared.Sample.{Sample}
+use Rattle.samples.specs.declared.Sample.{Sample}
 use Rattle.collector_phases.specs.declared.Phase.{Phase}
 use Rattle.collector_phases.specs.declared.Phase.the-variants.{Stop, Poll, Range, Clear, Low, High, Go, Look, Take, Drain, Stuck, Unknown}
 use Rattle.collector_phases.specs.Phases.{phaseOf, accessIn}
@@ -17,8 +17,8 @@ use Rattle.collector_phases.specs.Fit.{FitSettings}
 use Rattle.collector_phases.specs.Accesses.{accessOf}
 use Rattle.collector_records.specs.Records.{begun}
 use Rattle.collector.specs.Steps.{access-fit}
-use Rattle.turns.specs.Machine.{View, Machine}
-use Rattle.turns.specs.Hosts.{words}
+use Rattle.archive_turns.specs.Machine.{View, Machine}
+use Rattle.archive_turns.specs.Hosts.{words}
 use Rattle.archive_demand.specs.Run.{Happening, turn, world, Run, System, given, gap, after}
 use Rattle.archive_demand.specs.Log.{Log, log}
 use Rattle.archive_demand.specs.Demand.{Demand3, Either, first, second, look, wordRead}
@@ -26,7 +26,7 @@ use Rattle.archive_demand.specs.Laws.{Laws}
 use Rattle.archive_demand.specs.Chain.{Chain}
 use Rattle.archive_demand.specs.Phases.{Any, Idle, Running, Queue, Fact, FactOf}
 use Rattle.archive_demand.specs.Invariant.{Sound, sound, facts, s₀, sound₀, fact₀}
-use Rattle.archive_demand.specs.Told.{look-phase, poll-phase, phase-by, stop-phase}
+use Rattle.archive_demand.specs.Told.{phase-told}
 use Rattle.archive_demand.specs.Looked.{yields-at, marks-at, again-at}
 use Rattle.archive_demand.specs.Starts.{Starting, quiet-turn, ready-at, polls-at, waits-at}
 
@@ -121,10 +121,10 @@ module _ (M : Machine) (Working : M .Board → Type 0) (laws : Laws M Working) (
       by (running a i) = which a
 
   at-look : (r : Run) → accessOf (at r .collector) ≡ look → phaseOf (at r .collector .phase) ≡ Look
-  at-look r e = phase-by (at r .collector) Look look look-phase (ok r .fit) e
+  at-look r e = phase-told (at r .collector) look (ok r .fit) e
 
   at-poll : (r : Run) → accessOf (at r .collector) ≡ ReadByte 8 → phaseOf (at r .collector .phase) ≡ Poll
-  at-poll r e = phase-by (at r .collector) Poll (ReadByte 8) poll-phase (ok r .fit) e
+  at-poll r e = phase-told (at r .collector) (ReadByte 8) (ok r .fit) e
 
   pub demand3 : Demand3 M words (record { board = b; collector = begun t })
   unfolding after phaseOf
@@ -138,7 +138,7 @@ module _ (M : Machine) (Working : M .Board → Type 0) (laws : Laws M Working) (
         again = λ r q e k. again-at M Working laws t (at r) (ok r) (at-look r e) q (omega (arith, k)) k;
         goes-on = in-run;
         begins = access-fit (begun t) (sound₀ M Working laws b wk t f .fit);
-        polls = λ r e. polls-at M Working laws t (at r) (ok r) (stop-phase (at r .collector) (ok r .fit) e);
+        polls = λ r e. polls-at M Working laws t (at r) (ok r) (phase-told (at r .collector) (WriteByte 9 0) (ok r .fit) e);
         waits = λ r e k. waits-at M Working laws t (at r) (ok r) (at-poll r e) k;
         ready = λ r q e n k. ready-at M Working laws t (at r) (ok r) (at-poll r e) n q k;
       }

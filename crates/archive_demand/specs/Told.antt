@@ -1,8 +1,7 @@
 -- The phase of a fit collector, told by its access. Assumes nothing.
-use Prim.Native.Nat.{ℕ, _+_}
-use mathlib.Core.Bool.{Bool, true, false}
-use mathlib.Core.Path.{_≡_, refl, sym, _∙_, ap}
-use native.Mathlib.Omega.{arith}
+use Prim.Native.Nat.{ℕ, zero, suc}
+use mathlib.Core.Bool.{Bool, true, false, _&&_}
+use mathlib.Core.Path.{_≡_, refl, sym, _∙_, subst}
 use lib.Dec.{eqb}
 use Rattle.base.specs.Choice.{if_then_else_}
 use Rattle.collector_phases.specs.declared.Access.{Access}
@@ -16,80 +15,41 @@ use Rattle.collector_phases.specs.Fit.{FitCollector}
 use Rattle.collector_phases.specs.Accesses.{accessOf}
 use Rattle.collector.specs.Steps.{access-fit}
 
--- ---- accesses, told apart by a number
-abbrev kind : Access → ℕ
-kind (WriteByte o v) = 0
-kind (ReadByte o) = 1 + o
-kind (ReadWord o) = 100
-kind (NoAccess n) = 101
+-- ---- only the phase Look reads offset 7, only Poll reads 8, and only Stop writes 0 to 9
+abbrev place : Access → ℕ
+place (WriteByte o v) = if eqb o 9 && eqb v 0 then 3 else 0
+place (ReadByte o) = if eqb o 7 then 1 else if eqb o 8 then 2 else 0
+place (ReadWord o) = 0
+place (NoAccess n) = 0
 
--- only the phase Look looks, and only Poll polls
-abbrev Sole : Phase → ℕ → Phase → Type 0
-Sole q n p = (s : Settings) → kind (accessIn p s) ≡ n → p ≡ q
+abbrev pub Told : Access → Phase → Type 0
+Told x p = by (place x)
+  where
+    by : ℕ → Type 0
+    by zero = Unit {0}
+    by (suc zero) = p ≡ Look
+    by (suc (suc zero)) = p ≡ Poll
+    by (suc (suc (suc n))) = p ≡ Stop
 
-pub look-phase : (p : Phase) → Sole Look 8 p
-look-phase Stop s e = absurd (omega arith)
-look-phase Poll s e = absurd (omega arith)
-look-phase Range s e = absurd (omega arith)
-look-phase Clear s e = absurd (omega arith)
-look-phase Low s e = absurd (omega arith)
-look-phase High s e = absurd (omega arith)
-look-phase Go s e = absurd (omega arith)
-look-phase Look s e = refl
-look-phase Take s e = absurd (omega arith)
-look-phase Drain s e = absurd (omega arith)
-look-phase Stuck s e = absurd (omega arith)
-look-phase Unknown s e = absurd (omega arith)
+told-in : (p : Phase) (s : Settings) → Told (accessIn p s) p
+told-in Stop s = refl
+told-in Poll s = refl
+told-in Range s = tt
+told-in Clear s = tt
+told-in Low s = tt
+told-in High s = tt
+told-in Go s = by (eqb (s .clock) 0)
+  where
+    by : (external : Bool) → Told (WriteByte 9 (if external then 2 else 3)) Go
+    by true = tt
+    by false = tt
+told-in Look s = refl
+told-in Take s = tt
+told-in Drain s = tt
+told-in Stuck s = tt
+told-in Unknown s = tt
 
-pub poll-phase : (p : Phase) → Sole Poll 9 p
-poll-phase Stop s e = absurd (omega arith)
-poll-phase Poll s e = refl
-poll-phase Range s e = absurd (omega arith)
-poll-phase Clear s e = absurd (omega arith)
-poll-phase Low s e = absurd (omega arith)
-poll-phase High s e = absurd (omega arith)
-poll-phase Go s e = absurd (omega arith)
-poll-phase Look s e = absurd (omega arith)
-poll-phase Take s e = absurd (omega arith)
-poll-phase Drain s e = absurd (omega arith)
-poll-phase Stuck s e = absurd (omega arith)
-poll-phase Unknown s e = absurd (omega arith)
-
-pub phase-by : (c : Collector) (q : Phase) (x : Access) → ((p : Phase) → Sole q (kind x) p) → FitCollector c → accessOf c ≡ x → phaseOf (c .phase) ≡ q
-phase-by c q x only f e = only (phaseOf (c .phase)) (c .settings) (ap kind (sym (access-fit c f) ∙ e))
-
--- only the phase Stop writes 0 to 9
-abbrev offset : Access → ℕ
-offset (WriteByte o v) = o
-offset (ReadByte o) = 100
-offset (ReadWord o) = 100
-offset (NoAccess n) = 100
-
-abbrev written : Access → ℕ
-written (WriteByte o v) = v
-written (ReadByte o) = 0
-written (ReadWord o) = 0
-written (NoAccess n) = 0
-
-no-zero : (external : Bool) → _≡_ {A = ℕ} (if external then 2 else 3) 0 → ⊥
-no-zero true e = omega arith
-no-zero false e = omega arith
-
-stop-only : (p : Phase) (s : Settings) → offset (accessIn p s) ≡ 9 → written (accessIn p s) ≡ 0 → p ≡ Stop
-stop-only Stop s e f = refl
-stop-only Poll s e f = absurd (omega arith)
-stop-only Range s e f = absurd (omega arith)
-stop-only Clear s e f = absurd (omega arith)
-stop-only Low s e f = absurd (omega arith)
-stop-only High s e f = absurd (omega arith)
-stop-only Go s e f = absurd (no-zero (eqb (s .clock) 0) f)
-stop-only Look s e f = absurd (omega arith)
-stop-only Take s e f = absurd (omega arith)
-stop-only Drain s e f = absurd (omega arith)
-stop-only Stuck s e f = absurd (omega arith)
-stop-only Unknown s e f = absurd (omega arith)
-
-pub stop-phase : (c : Collector) → FitCollector c → accessOf c ≡ WriteByte 9 0 → phaseOf (c .phase) ≡ Stop
-stop-phase c f e =
-    let g = sym (access-fit c f) ∙ e in
-    stop-only (phaseOf (c .phase)) (c .settings) (ap offset g) (ap written g)
+-- the phase of a fit collector that makes the access x
+pub phase-told : (c : Collector) (x : Access) → FitCollector c → accessOf c ≡ x → Told x (phaseOf (c .phase))
+phase-told c x f e =
+    subst (λ (y : Access). Told y (phaseOf (c .phase))) (sym (access-fit c f) ∙ e) (told-in (phaseOf (c .phase)) (c .settings))

@@ -5,20 +5,22 @@ use mathlib.Core.List.{List, [], _∷_, _++_, append-assoc, append-nil}
 use mathlib.Core.Option.{Option, none, some}
 use mathlib.Core.Path.{_≡_, refl, sym, _∙_, ap}
 use native.Mathlib.Omega.{arith}
-use Rattle.events.specs.declared.Answer.the-variants.{Done, Byte, Word}
-use Rattle.events.specs.declared.Event.the-variants as event
+use Rattle.board_events.specs.declared.Answer.the-variants.{Done, Byte, Word}
+use Rattle.board_events.specs.declared.Event.the-variants as event
 use lib.ListN.{length}
 use Rattle.converter.specs.Codes.{sampleOf}
 use Rattle.collector_phases.specs.declared.Access.{Access}
 use Rattle.collector_settings.specs.declared.Settings.{Settings}
-use Rattle.collector_answers.specs.declared.Sample.{Sample}
+use Rattle.samples.specs.declared.Sample.{Sample}
 use Rattle.collector_answers.specs.Answers.{sampleAt}
 use Rattle.collector.specs.Handed.{isGo}
-use Rattle.turns.specs.Machine.{View}
+use Rattle.archive_turns.specs.Machine.{View}
 use Rattle.archive_demand.specs.Log.{Log, stretch, noteTurn}
 use Rattle.archive_demand.specs.Laws.{leaving}
-use Rattle.archive_demand.specs.Chain.{follows, Chain, snoc}
-use Rattle.archive_demand.specs.Phases.{wordsOf, length-words, Sixteen, Any, Idle, Quiet, Running, Queue, Loss, no-loss, was-full, Looking, Taking, Draining}
+use Rattle.collector_records.specs.Records.{follows}
+use Rattle.archive_demand.specs.Chain.{Chain, snoc}
+use Rattle.archive_demand.specs.Phases.{wordsOf, length-words, CodeFits, Any, Idle, Quiet, Running, Queue, Loss, no-loss, was-full, Looking, Taking}
+use Rattle.archive_demand.specs.Phases.{Draining}
 use Rattle.archive_demand.specs.Ends.{queue-relog}
 use Rattle.archive_demand.specs.Sights.{n}
 
@@ -116,7 +118,7 @@ pub record Oldest (next : ℕ) (t : Settings) (m : ℕ) (Q : List Sample) (X h :
   -- as the collector hands it over
   pub sampled : sampleAt next (sampleOf (y .code)) ≡ y
 
-pub oldest-of : (next : ℕ) (t : Settings) (m : ℕ) (Q : List Sample) (X h : List ℕ) → 1 ≤ length Q → h ≡ wordsOf Q ++ X → Chain Sixteen t next Q m
+pub oldest-of : (next : ℕ) (t : Settings) (m : ℕ) (Q : List Sample) (X h : List ℕ) → 1 ≤ length Q → h ≡ wordsOf Q ++ X → Chain CodeFits t next Q m
     → Oldest next t m Q X h
 oldest-of next t m [] X h a e c = absurd (omega arith)
 oldest-of next t m (y ∷ Q) X h a e c = record { y = y; rest = Q; cut = refl; whole = e; sampled = rw (c .1, ← c .0) }

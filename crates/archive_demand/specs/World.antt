@@ -4,9 +4,9 @@ use lib.IntN.{ℤ}
 use mir.Syntax.{w16}
 use mir.Val.{SFits}
 use Rattle.ports.specs.declared.Port.{Port}
-use Rattle.events.specs.declared.Din.{Din}
-use Rattle.events.specs.declared.Event.{Event}
-use Rattle.events.specs.declared.Event.the-variants.{ConversionEnd, DinPins, LatchLevel, PortPins, Tick, TransferEnd}
+use Rattle.board_events.specs.declared.Din.{Din}
+use Rattle.board_events.specs.declared.Event.{Event}
+use Rattle.board_events.specs.declared.Event.the-variants.{ConversionEnd, DinPins, LatchLevel, PortPins, Tick, TransferEnd}
 
 pub data World : Type 0 where
   -- with a signed code of 16 bits

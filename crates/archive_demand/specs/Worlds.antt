@@ -11,15 +11,15 @@ use Rattle.base.specs.Laws.{both}
 use Rattle.converter.specs.Channels.{started, idle, endStarts}
 use Rattle.converter.specs.Codes.{sampleOf, codeOf}
 use Rattle.collector_settings.specs.declared.Settings.{Settings}
-use Rattle.collector_answers.specs.declared.Sample.{Sample}
+use Rattle.samples.specs.declared.Sample.{Sample}
 use Rattle.collector_phases.specs.declared.Phase.{Phase}
 use Rattle.collector_phases.specs.declared.Phase.the-variants.{Stop, Poll, Range, Clear, Low, High, Go, Look, Take, Drain, Stuck, Unknown}
 use Rattle.collector_phases.specs.Fit.{FitSettings}
-use Rattle.turns.specs.Machine.{View}
+use Rattle.archive_turns.specs.Machine.{View}
 use Rattle.archive_demand.specs.Log.{Log, addSample, counted, atMostOne, noteWorld}
 use Rattle.archive_demand.specs.Laws.{starting, ending, Happens, quiet, trigger, end}
 use Rattle.archive_demand.specs.Phases.{Idle, Quiet, Running, Looking, Taking, Draining, Fact}
-use Rattle.archive_demand.specs.Ends.{settled, queue-begin, queue-relog, look-end, take-end, drain-end}
+use Rattle.archive_demand.specs.Ends.{afterEnd, queue-begin, queue-relog, look-end, take-end, drain-end}
 
 -- ---- what does not depend on the samples
 pub idle-world : (e : Option ℤ) (begins : Bool) (ch : ℕ) (l : Log) → Idle l → Idle (noteWorld e begins ch l)
@@ -71,14 +71,14 @@ module _ (P : View → Log → Type 0) (v : View) (l : Log) (no-scan : on (v .co
     (again : P v (requieted l))
     (begun : on (v .converter .converting) ≡ false → P (starting v) (noteWorld none true (v .converter .selected) l))
     (over : (code : ℤ) → codeOf (sampleOf code) ≡ code → on (v .converter .converting) ≡ true
-    → P (settled (sampleOf code) v) (noteWorld (some code) false (v .converter .selected) l)) where
+    → P (afterEnd (sampleOf code) v) (noteWorld (some code) false (v .converter .selected) l)) where
   by-event : (begins : Bool) (e : Option ℤ) (v′ : View) → Happens begins e v v′ → P v′ (noteWorld e begins (v .converter .selected) l)
   unfolding requieted
   by-event begins e v′ (quiet a b c) = rw (a, b, c) again
   by-event begins e v′ (trigger a b c d f) = rw (a, b, f) (begun d)
   by-event begins e v′ (end code s a b c d) =
       let z : endStarts (v .converter) ≡ false = rw no-scan in
-      let y : ending (sampleOf code) v ≡ settled (sampleOf code) v = rw z in
+      let y : ending (sampleOf code) v ≡ afterEnd (sampleOf code) v = rw z in
       rw (a ∙ z, b, d ∙ y) (over code s c)
 
 module _ (t : Settings) (next left : ℕ) (f : FitSettings t) (v : View) (l : Log) (begins : Bool) (e : Option ℤ) (v′ : View) (h : Happens begins e v v′) where
@@ -95,7 +95,8 @@ module _ (t : Settings) (next left : ℕ) (f : FitSettings t) (v : View) (l : Lo
   unfolding by-event requieted
   looking k =
       by-event (λ u m. m .within ≡ true → Looking t next u m) v l (k .inner .no-scan)
-      (λ w. record { Q = k .Q; L = k .L; inner = queue-relog t next v l (requieted l) (k .Q) (k .L) refl refl refl (k .inner); holds = k .holds; loss = k .loss })
+      (λ w.
+      record { Q = k .Q; L = k .L; inner = queue-relog t next v l (requieted l) (k .Q) (k .L) refl refl refl (k .inner); holds = k .holds; loss = k .loss })
       (λ b w. record { Q = k .Q; L = k .L; inner = queue-begin t next v l (k .Q) (k .L) f b (k .inner); holds = k .holds; loss = k .loss })
       (λ code s b w. look-end t next v l code ch s b k) begins e v′ h
 

@@ -1,42 +1,37 @@
 -- What a look yields, and what follows it. Assumes nothing.
-use Prim.Native.Nat.{ℕ, zero, suc, _+_, _-_, _≤_, _<_}
+use Prim.Native.Nat.{ℕ, suc, _+_, _≤_, _<_}
 use mathlib.Core.Bool.{Bool, true, false}
-use mathlib.Core.List.{List, [], _∷_, _++_, map, append-assoc, append-nil}
+use mathlib.Core.List.{List, [], _∷_, _++_, append-assoc, append-nil}
 use mathlib.Core.Path.{_≡_, refl, sym, _∙_, ap, subst}
 use native.Mathlib.Omega.{arith}
-use borrow.Author.Tests.{leb-true, leb-false, le-leb, lt-leb, ltb-true}
+use borrow.Author.Tests.{leb-true, leb-false}
 use lib.IntN.{ℤ}
-use lib.Dec.{ltb, leb}
-use lib.ListN.{length, length-append, take}
-use lib.Seq.{take-at}
+use lib.Dec.{ltb}
+use lib.ListN.{length, length-append}
 use Rattle.base.specs.Choice.{if_then_else_}
 use Rattle.fifo.specs.Samples.{pushed}
 use Rattle.converter.specs.Codes.{codeOf}
-use Rattle.events.specs.declared.Answer.the-variants.{Byte, Word}
-use Rattle.events.specs.declared.Event.the-variants as event
-use Rattle.collector_phases.specs.declared.Access.{Access}
-use Rattle.collector_phases.specs.declared.Access.the-variants.{WriteByte, ReadByte, ReadWord}
+use Rattle.board_events.specs.declared.Event.the-variants as event
+use Rattle.collector_phases.specs.declared.Access.the-variants.{ReadWord}
 use Rattle.collector_phases.specs.declared.Collector.{Collector}
 use Rattle.collector_settings.specs.declared.Settings.{Settings}
-use Rattle.collector_answers.specs.declared.Sample.{Sample}
+use Rattle.samples.specs.declared.Sample.{Sample}
 use Rattle.collector_steps.specs.declared.Taken.{Taken}
 use Rattle.collector_phases.specs.declared.Phase.{Phase}
 use Rattle.collector_phases.specs.declared.Phase.the-variants.{Stop, Look, Take, Drain}
 use Rattle.collector_phases.specs.Phases.{phaseOf, accessIn}
 use Rattle.collector_phases.specs.Fit.{FitCollector}
-use Rattle.collector_phases.specs.Accesses.{accessOf}
 use Rattle.collector_replies.specs.Reply.{replied}
 use Rattle.collector.specs.Handed.{samplesOf, gapMarked}
 use Rattle.collector.specs.Steps.{Step, step, access-fit}
-use Rattle.collector.specs.Steps.{look-wide, look-contradicts, look-empty, look-full, look-few, taken, drained, closed}
-use Rattle.turns.specs.Machine.{View, Machine}
-use Rattle.turns.specs.Turn.{Turning, eventOf, turnBy}
-use Rattle.turns.specs.Hosts.{words}
+use Rattle.collector.specs.Steps.{taken, drained, closed}
+use Rattle.archive_turns.specs.Machine.{View, Machine}
+use Rattle.archive_turns.specs.Turn.{eventOf, turnBy}
+use Rattle.archive_turns.specs.Hosts.{words}
 use Rattle.archive_demand.specs.World.{World, eventIn}
-use Rattle.archive_demand.specs.Run.{Happening, turn, world, Run, begin, _▸_, System, turning, next, given, gap, after, givenIn, gapsIn, turns}
-use Rattle.archive_demand.specs.Demand.{codesOf, codesIn, owed, look}
-use Rattle.archive_demand.specs.Laws.{Laws, Happens, quiet, trigger, end, ending, Fetches}
-use Rattle.archive_demand.specs.Sights.{status, no-contradiction, shows-none, shows-some, shows-all, shows-few}
+use Rattle.archive_demand.specs.Run.{turn, world, Run, begin, _▸_, System, turning, next, given, gap, after, givenIn, gapsIn, turns}
+use Rattle.archive_demand.specs.Demand.{codesOf, codesIn}
+use Rattle.archive_demand.specs.Laws.{Laws, Happens, quiet, trigger, end, Fetches}
 use Rattle.archive_demand.specs.Invariant.{Sound, sound}
 
 codes-append : (a b : List Sample) → codesOf (a ++ b) ≡ codesOf a ++ codesOf b
@@ -129,35 +124,29 @@ module _ (M : Machine) (Working : M .Board → Type 0) (laws : Laws M Working) w
         rw (codes-append, in-append, said)
         (ap (λ (z : ℤ). codesIn done ++ (z ∷ [])) (e ∙ ap codeOf (F .oldest d (rest ++ X) holds)))
 
-    take-done : (r : Taken) → rest ≡ [] → Step c (F .word) Take r → Done false r
-    unfolding phaseOf
-    take-done r z taken =
+    -- the sample y has come, and what it leaves owes the rest
+    one-done : (full : Bool) (r : Taken) (y : Sample) → samplesOf (r .handed) ≡ y ∷ [] → y .code ≡ codeOf (F .word) → Stage full rest (r .collector)
+        → g + (if gapMarked (r .handed) then 1 else 0) ≡ marked full rest → Done full r
+    one-done full r y h e s m =
         record {
           done = done ++ (d ∷ []);
           rest = rest;
           X = X;
           cut = cut ∙ one-more;
           holds = held-after;
-          said = says _ refl;
+          said = rw h (says y e);
           count = counted;
-          stage = rw z;
-          mark = rw z (omega arith);
+          stage = s;
+          mark = m;
         }
+
+    take-done : (r : Taken) → rest ≡ [] → Step c (F .word) Take r → Done false r
+    unfolding phaseOf
+    take-done r z taken = one-done false r _ refl refl (rw z) (rw z (omega arith))
 
     drain-done : (r : Taken) → c .left ≡ suc (length rest) → Step c (F .word) Drain r → Done true r
     unfolding phaseOf
-    drain-done r z (drained e) =
-        record {
-          done = done ++ (d ∷ []);
-          rest = rest;
-          X = X;
-          cut = cut ∙ one-more;
-          holds = held-after;
-          said = says _ refl;
-          count = counted;
-          stage = more rest refl;
-          mark = unmarked rest refl;
-        }
+    drain-done r z (drained e) = one-done true r _ refl refl (more rest refl) (unmarked rest refl)
       where
         h : 1 < c .left
         h = leb-false (c .left) 1 e
@@ -169,18 +158,7 @@ module _ (M : Machine) (Working : M .Board → Type 0) (laws : Laws M Working) w
         unmarked : (u : List ℕ) → rest ≡ u → g + 0 ≡ marked true rest
         unmarked [] p = absurd (let y : length rest ≡ 0 = ap length p in omega (arith, h))
         unmarked (n ∷ u) p = rw p (omega arith)
-    drain-done r z (closed e) =
-        record {
-          done = done ++ (d ∷ []);
-          rest = rest;
-          X = X;
-          cut = cut ∙ one-more;
-          holds = held-after;
-          said = says _ refl;
-          count = counted;
-          stage = last rest refl;
-          mark = marks rest refl;
-        }
+    drain-done r z (closed e) = one-done true r _ refl refl (last rest refl) (marks rest refl)
       where
         h : c .left ≤ 1
         h = leb-true (c .left) 1 e

@@ -1,6 +1,6 @@
 -- Laws of choices and of rows of tests that proofs cite.
 use mathlib.Core.Path.{_≡_, refl}
-use mathlib.Core.Bool.{Bool, true, false, not, _&&_}
+use mathlib.Core.Bool.{Bool, true, false, not, _&&_, _||_}
 use Prim.Native.Nat.{ℕ, _≤_}
 use native.Mathlib.Omega.{arith}
 use Rattle.base.specs.Choice.{if_then_else_}
@@ -28,6 +28,11 @@ never h = absurd (let z : _≡_ {A = ℕ} 0 1 = cc in omega arith)
 pub both : (a b : Bool) → a && b ≡ true → (a ≡ true) × (b ≡ true)
 both true b h = (refl, h)
 both false b h = never h
+
+-- where not even one of two holds, neither does
+pub neither : (a b : Bool) → a || b ≡ false → (a ≡ false) × (b ≡ false)
+neither true b h = (h, cc)
+neither false b h = (refl, h)
 
 -- where not both hold and the first does, the second does not
 pub under-and : (a b : Bool) → (a && b) ≡ false → a ≡ true → b ≡ false

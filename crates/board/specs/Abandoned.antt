@@ -6,37 +6,28 @@ use mathlib.Core.Bool.{Bool, true, false, not, _&&_, _||_}
 use mathlib.Core.List.{List, [], _∷_, _++_}
 use lib.IntN.{ℤ}
 use borrow.Author.Tests.{eqb-true}
-use lib.Dec.{eqb, ltb}
+use lib.Dec.{eqb}
 use Rattle.base.specs.Flags.{on}
 use Rattle.base.specs.Choice.{if_then_else_}
 use Rattle.fifo.specs.Samples.{pushed}
 use Rattle.fifo.specs.Queue.{queue}
 use Rattle.fifo.specs.Queue.Laws.{length-queue}
-use Rattle.converter.specs.Channels.{softwareTrigger}
 use Rattle.converter.specs.Codes.{sampleOf}
 use Rattle.converter.specs.Registers.{freshConverter}
 use Rattle.converter.specs.declared.channels.Converter.{Converter}
-use Rattle.timer_bus.specs.Bus.{countWritten, controlWritten}
-use Rattle.timer_bus.specs.declared.Written.{Written}
-use Rattle.timer_bus.specs.declared.Written.the-variants.{Accepted, Refused}
-use Rattle.machine_clock.specs.Clock.{gates}
 use Rattle.machine_tick.specs.Tick.{dividersTicked, counter0Ticked}
 use Rattle.machine_reset.specs.Reset.{isReset, boardReset, miscWritten}
-use Rattle.machine.specs.declared.Board.{Board}
+use Rattle.machine_record.specs.declared.Board.{Board}
 use Rattle.bus.specs.Place.{placeOf}
-use Rattle.bus.specs.Write.{writtenAt}
-use Rattle.bus.specs.declared.Place.{Place}
-use Rattle.bus.specs.declared.Place.the-variants.{Start, Digital, LowChannel, HighChannel, DacLeast, DacMost, Depth, FifoControl}
-use Rattle.bus.specs.declared.Place.the-variants.{Miscellaneous, Operation, CounterControl, Analog, Count, ControlWord, PortData, PortControl}
-use Rattle.bus.specs.declared.Place.the-variants.{Reserved, Auxiliary, CalData, CalAddress, CalCommand, CalKey, Outside}
+use Rattle.bus.specs.Registers.{writtenAt}
 use Rattle.board_step.specs.Act.{dinLevels, acted}
 use Rattle.board_refusal.specs.Working.{WorkingBoard}
 use Rattle.board_step.specs.Step.{ran, ranFrom}
-use Rattle.board.specs.Begins.{timerBegins, writtenBegins, writeBegins, tickBegins, begins, beginsOn, ends, keeps, resets, abandons}
+use Rattle.board.specs.Begins.{begins, beginsOn, ends, keeps, resets, abandons}
 use Rattle.base.specs.Laws.{never, both}
-use Rattle.board.specs.Conversions.{begun, over, same, counter0-same, out2Trigger, clocked1, dinTrigger}
-use Rattle.events.specs.declared.Event.{Event}
-use Rattle.events.specs.declared.Event.the-variants.{WriteByte, ReadByte, ReadWord, ConversionEnd, DinPins, LatchLevel, PortPins, Tick, TransferEnd}
+use Rattle.board.specs.Conversions.{free, write-begun, begun, over, stays-same, counter0-same, out2Trigger, clocked1, dinTrigger}
+use Rattle.board_events.specs.declared.Event.{Event}
+use Rattle.board_events.specs.declared.Event.the-variants.{WriteByte, ReadByte, ReadWord, ConversionEnd, DinPins, LatchLevel, PortPins, Tick, TransferEnd}
 
 -- whether a conversion is in progress after an event that is not refused
 abbrev pub runsAfter : Board → ℕ → List ℕ → Event → Bool
@@ -67,7 +58,7 @@ module _ (b : Board) (o : ℕ) (e : List ℕ) (ev : Event) where
   progress true t u h k r = runs (begun b o e ev h)
   progress false true u h k r = runs (over b o e ev h k)
   progress false false true h k r = runs (reset-fresh b o e ev r)
-  progress false false false h k r = same b o e ev h k r .converting
+  progress false false false h k r = stays-same b o e ev h k r .converting
 
   -- a conversion is in progress after an event exactly where the event begins one, or one was in progress and the event neither ends one nor
   -- resets
@@ -79,43 +70,9 @@ pub begins-on : (b : Board) (o : ℕ) (e : List ℕ) (ev : Event) → begins b e
 begins-on b o e ev h = ap (λ (c : Converter). c .channel) (begun b o e ev h)
 
 -- ---- an event that is no end begins a conversion only where none is in progress
-free : (t running : Bool) → t && not running ≡ true → running ≡ false
-free true true h = never h
-free true false h = refl
-free false running h = never h
-
-written-free : (b : Board) (w : Written) → writtenBegins b w ≡ true → on (b .converter .converting) ≡ false
-written-free b (Accepted t) h = free (out2Trigger b t) (on (b .converter .converting)) h
-written-free b (Refused n) h = never h
-
-write-free : (b : Board) (p : Place) (v : ℕ) → writeBegins b p v ≡ true → on (b .converter .converting) ≡ false
-write-free b Start v h = free (softwareTrigger (b .converter)) (on (b .converter .converting)) h
-write-free b Digital v h = never h
-write-free b LowChannel v h = never h
-write-free b HighChannel v h = never h
-write-free b DacLeast v h = never h
-write-free b DacMost v h = never h
-write-free b Depth v h = never h
-write-free b FifoControl v h = never h
-write-free b Miscellaneous v h = never h
-write-free b Operation v h = never h
-write-free b CounterControl v h = never h
-write-free b Analog v h = never h
-write-free b (Count s) v h = written-free b (countWritten (b .clocks .timer) s v (gates b)) h
-write-free b ControlWord v h = written-free b (controlWritten (b .clocks .timer) v (gates b)) h
-write-free b (PortData q) v h = never h
-write-free b PortControl v h = never h
-write-free b Reserved v h = never h
-write-free b Auxiliary v h = never h
-write-free b CalData v h = never h
-write-free b CalAddress v h = never h
-write-free b CalCommand v h = never h
-write-free b CalKey v h = never h
-write-free b Outside v h = never h
-
 pub begins-free : (b : Board) (ev : Event) → ends ev ≡ false → begins b ev ≡ true → on (b .converter .converting) ≡ false
 unfolding begins ends
-begins-free b (WriteByte n v) k h = write-free b (placeOf (b .registers .page) n) v h
+begins-free b (WriteByte n v) k h = write-begun b (placeOf (b .registers .page) n) v h .none-before
 begins-free b (ReadByte n) k h = never h
 begins-free b (ReadWord n) k h = never h
 begins-free b (ConversionEnd code) k h = never (sym k)

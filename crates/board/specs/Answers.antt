@@ -8,40 +8,14 @@ use lib.Dec.{eqb}
 use Rattle.base.specs.Choice.{if_then_else_}
 use Rattle.fifo.specs.Samples.{oldestOf}
 use Rattle.fifo.specs.Queue.{queue}
-use Rattle.machine.specs.declared.Board.{Board}
+use Rattle.machine_record.specs.declared.Board.{Board}
 use Rattle.bus.specs.Place.{placeOf}
-use Rattle.bus.specs.Read.{byteAt}
+use Rattle.bus.specs.Registers.{byteAt}
 use Rattle.board_step.specs.Act.{acted}
 use Rattle.board_step.specs.Step.{ran, ranFrom, number, refusedBy, stepOf}
-use Rattle.events.specs.Answers.{refusalNumber, valueRead}
-use Rattle.events.specs.declared.Event.{Event}
-use Rattle.events.specs.declared.Event.the-variants.{WriteByte, ReadByte, ReadWord, ConversionEnd, DinPins, LatchLevel, PortPins, Tick, TransferEnd}
-
-acted-answer : (b : Board) (o : ℕ) (e : List ℕ) (ev : Event) → refusalNumber (acted b o e ev .answer) ≡ 0
-unfolding acted
-acted-answer b o e (WriteByte n v) = refl
-acted-answer b o e (ReadByte n) = refl
-acted-answer b o e (ReadWord n) = refl
-acted-answer b o e (ConversionEnd code) = refl
-acted-answer b o e (DinPins d) = refl
-acted-answer b o e (LatchLevel level) = refl
-acted-answer b o e (PortPins q v) = refl
-acted-answer b o e Tick = refl
-acted-answer b o e TransferEnd = refl
-
--- the number that a step answers is that of the first check that holds, 0 where none does
-pub answer-number : (b : Board) (memory eeprom : List ℕ) (ev : Event)
-    → refusalNumber (stepOf b memory eeprom ev .answer) ≡ number b memory eeprom ev
-unfolding stepOf ran
-answer-number b memory eeprom ev = by (eqb (number b memory eeprom ev) 0) refl
-  where
-    by : (t : Bool) → eqb (number b memory eeprom ev) 0 ≡ t
-        → refusalNumber
-        ((if t then record { board = ranFrom b memory eeprom ev .board; answer = ranFrom b memory eeprom ev .answer }
-        else refusedBy b (number b memory eeprom ev)) .answer)
-        ≡ number b memory eeprom ev
-    by true h = acted-answer b _ eeprom ev ∙ sym (eqb-true _ _ h)
-    by false h = refl
+use Rattle.board_events.specs.Answers.{refusalNumber, valueRead}
+use Rattle.board_events.specs.declared.Event.{Event}
+use Rattle.board_events.specs.declared.Event.the-variants.{WriteByte, ReadByte, ReadWord, ConversionEnd, DinPins, LatchLevel, PortPins, Tick, TransferEnd}
 
 -- what an event that is not refused brings, the samples held being these: a read the byte of its place, a word read the oldest sample
 unfoldable pub valueBrought : Board → List ℕ → Event → ℕ
@@ -55,17 +29,33 @@ valueBrought b samples (PortPins q v) = 0
 valueBrought b samples Tick = 0
 valueBrought b samples TransferEnd = 0
 
-acted-value : (b : Board) (samples e : List ℕ) (ev : Event) → valueRead (acted b (oldestOf samples) e ev .answer) ≡ valueBrought b samples ev
+-- it is answered by no refusal
+acted-answer : (b : Board) (samples e : List ℕ) (ev : Event)
+    → (refusalNumber (acted b (oldestOf samples) e ev .answer) ≡ 0) × (valueRead (acted b (oldestOf samples) e ev .answer) ≡ valueBrought b samples ev)
 unfolding acted valueBrought
-acted-value b samples e (WriteByte n v) = refl
-acted-value b samples e (ReadByte n) = refl
-acted-value b samples e (ReadWord n) = refl
-acted-value b samples e (ConversionEnd code) = refl
-acted-value b samples e (DinPins d) = refl
-acted-value b samples e (LatchLevel level) = refl
-acted-value b samples e (PortPins q v) = refl
-acted-value b samples e Tick = refl
-acted-value b samples e TransferEnd = refl
+acted-answer b samples e (WriteByte n v) = (refl, refl)
+acted-answer b samples e (ReadByte n) = (refl, refl)
+acted-answer b samples e (ReadWord n) = (refl, refl)
+acted-answer b samples e (ConversionEnd code) = (refl, refl)
+acted-answer b samples e (DinPins d) = (refl, refl)
+acted-answer b samples e (LatchLevel level) = (refl, refl)
+acted-answer b samples e (PortPins q v) = (refl, refl)
+acted-answer b samples e Tick = (refl, refl)
+acted-answer b samples e TransferEnd = (refl, refl)
+
+-- the number that a step answers is that of the first check that holds, 0 where none does
+pub answer-number : (b : Board) (memory eeprom : List ℕ) (ev : Event)
+    → refusalNumber (stepOf b memory eeprom ev .answer) ≡ number b memory eeprom ev
+unfolding stepOf ran
+answer-number b memory eeprom ev = by (eqb (number b memory eeprom ev) 0) refl
+  where
+    by : (t : Bool) → eqb (number b memory eeprom ev) 0 ≡ t
+        → refusalNumber
+        ((if t then record { board = ranFrom b memory eeprom ev .board; answer = ranFrom b memory eeprom ev .answer }
+        else refusedBy b (number b memory eeprom ev)) .answer)
+        ≡ number b memory eeprom ev
+    by true h = acted-answer b (queue (b .fifo) memory) eeprom ev .0 ∙ sym (eqb-true _ _ h)
+    by false h = refl
 
 -- the value that a step answers is what the event brings, and 0 where it is refused
 pub answer-value : (b : Board) (memory eeprom : List ℕ) (ev : Event)
@@ -79,5 +69,5 @@ answer-value b memory eeprom ev = by (eqb (number b memory eeprom ev) 0)
         ((if t then record { board = ranFrom b memory eeprom ev .board; answer = ranFrom b memory eeprom ev .answer }
         else refusedBy b (number b memory eeprom ev)) .answer)
         ≡ (if t then valueBrought b (queue (b .fifo) memory) ev else 0)
-    by true = acted-value b (queue (b .fifo) memory) eeprom ev
+    by true = acted-answer b (queue (b .fifo) memory) eeprom ev .1
     by false = refl

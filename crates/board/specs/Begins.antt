@@ -1,5 +1,5 @@
--- Which events begin a conversion, and on which channel; which end one, and how; which abandon one. From the specification's trigger rules ("Conversions, edges and
--- requests"), over the board before the event and an event that it does not refuse. A conversion that begins is of the selected channel.
+-- Which events begin a conversion, and on which channel; which end one, and how; which abandon one. From the specification's trigger rules ("Conversions, edges
+-- and requests"), over the board before the event and an event that it does not refuse. A conversion that begins is of the selected channel.
 use Prim.Native.Nat.{ℕ}
 use mathlib.Core.Bool.{Bool, true, false, _&&_}
 use lib.Dec.{eqb, ltb}
@@ -8,30 +8,31 @@ use mathlib.Core.Option.{Option, none, some}
 use lib.IntN.{ℤ}
 use Rattle.base.specs.Flags.{on}
 use Rattle.converter.specs.Channels.{endStarts}
-use Rattle.converter.specs.Begins.{softwareStarts, clockStarts, startsOn}
-use Rattle.timer.specs.Timer.{out, fell, clockedIf}
-use Rattle.timer_bus.specs.Bus.{countWritten, controlWritten}
+use Rattle.converter.specs.Begins.{softwareStarts, internalStarts, externalStarts, startsOn}
+use Rattle.counter_one.specs.Falls.{fell}
+use Rattle.timer.specs.Timer.{out, clockedIf}
+use Rattle.timer.specs.Bus.{countWritten, controlWordWritten}
 use Rattle.timer.specs.declared.Timer.{Timer}
 use Rattle.timer.specs.declared.Select.the-variants.{Counter1, Counter2}
-use Rattle.timer_bus.specs.declared.Written.{Written}
-use Rattle.timer_bus.specs.declared.Written.the-variants.{Accepted, Refused}
+use Rattle.timer.specs.declared.accesses.Written.{Written}
+use Rattle.timer.specs.declared.accesses.Written.the-variants.{Accepted, Refused}
 use Rattle.machine_clock.specs.Clock.{gates}
 use Rattle.machine_tick.specs.Tick.{clock1, dividersTicked, counter0Ticked}
 use Rattle.machine_pins.specs.Pins.{fellFrom, dinMoved, triggersStopped}
 use Rattle.machine_reset.specs.Reset.{isReset}
-use Rattle.machine.specs.declared.Board.{Board}
+use Rattle.machine_record.specs.declared.Board.{Board}
 use Rattle.bus.specs.Place.{placeOf}
 use Rattle.board_step.specs.Act.{dinLevels}
 use Rattle.bus.specs.declared.Place.{Place}
-use Rattle.bus.specs.declared.Place.the-variants.{Start, Digital, LowChannel, HighChannel, DacLeast, DacMost, Depth, FifoControl}
-use Rattle.bus.specs.declared.Place.the-variants.{Miscellaneous, Operation, CounterControl, Analog, Count, ControlWord, PortData, PortControl}
-use Rattle.bus.specs.declared.Place.the-variants.{Reserved, Auxiliary, CalData, CalAddress, CalCommand, CalKey, Outside}
-use Rattle.events.specs.declared.Event.{Event}
-use Rattle.events.specs.declared.Event.the-variants.{WriteByte, ReadByte, ReadWord, ConversionEnd, DinPins, LatchLevel, PortPins, Tick, TransferEnd}
+use Rattle.bus.specs.declared.Place.the-variants.{Base0, Base1, Base2, Base3, Base4, Base5, Base6, Base7}
+use Rattle.bus.specs.declared.Place.the-variants.{Base8, Base9, Base10, Base11, Count, ControlWord, PortData, PortControl}
+use Rattle.bus.specs.declared.Place.the-variants.{Reserved, Auxiliary, CalData, CalAddress, CalBase14, CalBase15, Outside}
+use Rattle.board_events.specs.declared.Event.{Event}
+use Rattle.board_events.specs.declared.Event.the-variants.{WriteByte, ReadByte, ReadWord, ConversionEnd, DinPins, LatchLevel, PortPins, Tick, TransferEnd}
 
 -- the timer goes to t: with CLKEN and CLKSEL = 1 a falling OUT2 is a trigger
 abbrev pub timerBegins : Board → Timer → Bool
-timerBegins b t = clockStarts (b .converter) (on (b .requests .clksel)) (fell (out (b .clocks .timer) Counter2) (out t Counter2)) false false
+timerBegins b t = internalStarts (b .converter) (on (b .requests .clksel)) (fell (out (b .clocks .timer) Counter2) (out t Counter2))
 
 abbrev pub writtenBegins : Board → Written → Bool
 writtenBegins b (Accepted t) = timerBegins b t
@@ -39,33 +40,33 @@ writtenBegins b (Refused n) = false
 
 -- 0 is the software trigger; a write of page 0 may make OUT2 fall; "Writing 9 or 10, or a reset, ... is no clock edge or trigger"
 abbrev pub writeBegins : Board → Place → ℕ → Bool
-writeBegins b Start v = softwareStarts (b .converter)
-writeBegins b Digital v = false
-writeBegins b LowChannel v = false
-writeBegins b HighChannel v = false
-writeBegins b DacLeast v = false
-writeBegins b DacMost v = false
-writeBegins b Depth v = false
-writeBegins b FifoControl v = false
-writeBegins b Miscellaneous v = false
-writeBegins b Operation v = false
-writeBegins b CounterControl v = false
-writeBegins b Analog v = false
+writeBegins b Base0 v = softwareStarts (b .converter)
+writeBegins b Base1 v = false
+writeBegins b Base2 v = false
+writeBegins b Base3 v = false
+writeBegins b Base4 v = false
+writeBegins b Base5 v = false
+writeBegins b Base6 v = false
+writeBegins b Base7 v = false
+writeBegins b Base8 v = false
+writeBegins b Base9 v = false
+writeBegins b Base10 v = false
+writeBegins b Base11 v = false
 writeBegins b (Count s) v = writtenBegins b (countWritten (b .clocks .timer) s v (gates b))
-writeBegins b ControlWord v = writtenBegins b (controlWritten (b .clocks .timer) v (gates b))
+writeBegins b ControlWord v = writtenBegins b (controlWordWritten (b .clocks .timer) v (gates b))
 writeBegins b (PortData q) v = false
 writeBegins b PortControl v = false
 writeBegins b Reserved v = false
 writeBegins b Auxiliary v = false
 writeBegins b CalData v = false
 writeBegins b CalAddress v = false
-writeBegins b CalCommand v = false
-writeBegins b CalKey v = false
+writeBegins b CalBase14 v = false
+writeBegins b CalBase15 v = false
 writeBegins b Outside v = false
 
 -- with CLKEN and CLKSEL = 0 a falling DIN3 is a trigger, by DIN2 as it then is
 abbrev pub dinBegins : Board → ℕ → Bool
-dinBegins b din = clockStarts (b .converter) (on (b .requests .clksel)) false (fellFrom (b .pins .din) din 8) (triggersStopped (dinMoved b din))
+dinBegins b din = externalStarts (b .converter) (on (b .requests .clksel)) (fellFrom (b .pins .din) din 3) (triggersStopped (dinMoved b din))
 
 -- a tick clocks counter 1, whose OUT may clock counter 2; counter 0 moves before and moves no OUT2
 abbrev pub tickBegins : Board → Bool

@@ -11,22 +11,21 @@ use Rattle.base.specs.Fields.{bit}
 use Rattle.base.specs.Weights.{weightOf, weight-le}
 use Rattle.fifo.specs.Queue.{queue}
 use Rattle.outputs.specs.Outputs.{dacbusy}
-use Rattle.calibration.specs.Registers.{calbusy}
+use Rattle.calibration_registers.specs.Registers.{calbusy}
 use Rattle.bus.specs.Place.{placeOf}
-use Rattle.bus.specs.Refusals.{writeChecks, readChecks}
-use Rattle.bus.specs.Read.{inputBits, byteAt}
-use Rattle.bus.specs.Write.{writtenAt}
+use Rattle.bus.specs.Bytes.{inputBits}
+use Rattle.bus.specs.Registers.{writeChecks, writtenAt, readChecks, byteAt}
 use Rattle.board_refusal.specs.Refusals.{eventChecks}
 use Rattle.board_step.specs.Act.{acted}
 use Rattle.board_step.specs.Step.{ran, stepOf}
-use Rattle.board_advance.specs.Advances.{State}
+use Rattle.board_step.specs.States.{State, Works, numberAt, answerAt, afterEvent}
 use Rattle.board.specs.Answers.{valueBrought, answer-value}
 use Rattle.board.specs.Held.{number-working}
-use Rattle.board.specs.Stretches.{Works, numberAt, answerAt, afterEvent, afterEvents, ticksIn, isLoad, NoReset, NoLoad}
+use Rattle.board.specs.Stretches.{afterEvents, ticksIn, isLoad, NoReset, NoLoad}
 use Rattle.board.specs.StretchSteps.{works-on, busy-step}
-use Rattle.events.specs.Answers.{valueRead}
-use Rattle.events.specs.declared.Event.{Event}
-use Rattle.events.specs.declared.Event.the-variants.{WriteByte, ReadByte, ReadWord, ConversionEnd, DinPins, LatchLevel, PortPins, Tick, TransferEnd}
+use Rattle.board_events.specs.Answers.{valueRead}
+use Rattle.board_events.specs.declared.Event.{Event}
+use Rattle.board_events.specs.declared.Event.the-variants.{WriteByte, ReadByte, ReadWord, ConversionEnd, DinPins, LatchLevel, PortPins, Tick, TransferEnd}
 
 -- ---- a write of 5 that is taken, and one while DACBUSY
 pub load-busy : (s : State) (v : ℕ) → numberAt s (WriteByte 5 v) ≡ 0 → afterEvent s (WriteByte 5 v) .board .outputs .busy ≡ 100
@@ -84,14 +83,14 @@ left-of-100 n k h = by (ltb k 100) refl
     by false e = le-ltb 0 n (omega (arith, h, ltb-false k 100 e))
 
 -- ---- DACBUSY is bit 7 of what 4 reads
-bit-7 : (t u : Bool) (n : ℕ) → bit (weightOf t 128 + weightOf u 64 + n % 16) 128 ≡ t
+bit-7 : (t u : Bool) (n : ℕ) → bit (weightOf t 128 + weightOf u 64 + n % 16) 7 ≡ t
 bit-7 true u n = let k = weight-le u 64 in eq-eqb ((128 + weightOf u 64 + n % 16) / 128 % 2) 1 (omega arith)
 bit-7 false u n = let k = weight-le u 64 in ne-eqb ((0 + weightOf u 64 + n % 16) / 128 % 2) 1 (λ e. omega arith)
 
-pub shown-at-4 : (s : State) → Works s → bit (valueRead (answerAt s (ReadByte 4))) 128 ≡ dacbusy (s .board .outputs)
+pub shown-at-4 : (s : State) → Works s → bit (valueRead (answerAt s (ReadByte 4))) 7 ≡ dacbusy (s .board .outputs)
 unfolding eventChecks placeOf readChecks valueBrought byteAt
 shown-at-4 s w =
-    ap (λ (n : ℕ). bit n 128) (answer-value (s .board) (s .memory) (s .eeprom) (ReadByte 4) ∙ byte)
+    ap (λ (n : ℕ). bit n 7) (answer-value (s .board) (s .memory) (s .eeprom) (ReadByte 4) ∙ byte)
     ∙ bit-7 (dacbusy (s .board .outputs)) (calbusy (s .board .calibration)) (s .board .pins .din)
   where
     taken : numberAt s (ReadByte 4) ≡ 0

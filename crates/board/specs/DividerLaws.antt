@@ -8,18 +8,18 @@ use lib.ListN.{length, replicate}
 use Rattle.machine_clock.specs.Clock.{gates}
 use Rattle.machine_tick.specs.Tick.{clock0, clock1, nextTick}
 use Rattle.machine_tick.specs.InPlace.{pulsedIf, clocksTicked}
-use Rattle.machine.specs.declared.Board.{Board}
-use Rattle.strides.specs.Lines.{turns, stands, next-in-range}
+use Rattle.machine_record.specs.declared.Board.{Board}
+use Rattle.machine_strides.specs.Lines.{turns, stands, next-in-range}
 use Rattle.board_refusal.specs.Working.{board-to}
 use Rattle.board_step.specs.Ways.{Opened}
 use Rattle.board_step.specs.Ticked.{tickedBoard, tick-step}
 use Rattle.board_step.specs.declared.Outcome.{Outcome}
-use Rattle.board_advance.specs.Advances.{State}
-use Rattle.board.specs.Stretches.{Works, afterEvent, afterEvents, ticksOf, ticksIn}
+use Rattle.board_step.specs.States.{State, Works, afterEvent}
+use Rattle.board.specs.Stretches.{afterEvents, ticksOf, ticksIn}
 use Rattle.board.specs.StretchLaws.{movedOn}
 use Rattle.board.specs.StretchSteps.{works-on, dividers-step}
-use Rattle.events.specs.declared.Event.{Event}
-use Rattle.events.specs.declared.Event.the-variants.{Tick}
+use Rattle.board_events.specs.declared.Event.{Event}
+use Rattle.board_events.specs.declared.Event.the-variants.{Tick}
 
 -- a divider after t ticks and k more
 turns-on : (last t h k : ℕ) → h ≤ last → (movedOn t h last + k) % suc last ≡ (h + (t + k)) % suc last
@@ -28,11 +28,11 @@ turns-on last (suc t) h k l =
     let e : suc (t + k) ≡ suc t + k = omega arith in
     turns-on last t (nextTick h last) k (next-in-range h last) ∙ sym (turns last h l (t + k)) ∙ ap (λ (x : ℕ). (h + x) % suc last) e
 
-pub record Run (s c : State) (ticks : ℕ) : Type 0 where
+pub record ClocksRun (s c : State) (ticks : ℕ) : Type 0 where
   pub hundred : c .board .clocks .hundred ≡ (s .board .clocks .hundred + ticks) % 100
   pub thousand : c .board .clocks .thousand ≡ (s .board .clocks .thousand + ticks) % 1000
 
-pub run-free : (s : State) → Works s → (events : List Event) → Run s (afterEvents s events) (ticksIn events)
+pub run-free : (s : State) → Works s → (events : List Event) → ClocksRun s (afterEvents s events) (ticksIn events)
 run-free s w [] = record {
   hundred = sym (stands 99 (s .board .clocks .hundred) (w .working .machine .clocks .hundred));
   thousand = sym (stands 999 (s .board .clocks .thousand) (w .working .machine .clocks .thousand));
@@ -57,7 +57,11 @@ module _ (s : State) (w : Works s) where
   counting = s .board .registers .counting
 
   opened : Opened (s .board) (s .memory) (s .eeprom)
-  opened = record { long = rw (eq-eqb (length (s .memory)) 512 (w .working .fifo .long), eq-eqb (length (s .eeprom)) 128 (w .long)); working = board-to (s .board) (s .memory) (w .working) }
+  opened =
+      record {
+        long = rw (eq-eqb (length (s .memory)) 512 (w .working .fifo .long), eq-eqb (length (s .eeprom)) 128 (w .long));
+        working = board-to (s .board) (s .memory) (w .working);
+      }
 
   ticked-to : afterEvent s Tick .board ≡ tickedBoard (s .board)
   ticked-to = ap (λ (o : Outcome). o .board) (sym (tick-step (s .board) (s .memory) (s .eeprom) opened .0))

@@ -9,17 +9,17 @@ use lib.ListN.{replicate}
 use lib.Dec.{eqb}
 use Rattle.base.specs.Fields.{bit}
 use Rattle.base.specs.Choice.{if_then_else_}
-use Rattle.counting.specs.Counter.{pulsed}
+use Rattle.counter_one.specs.Counter.{pulsed}
 use Rattle.machine_clock.specs.Clock.{gates}
 use Rattle.machine_tick.specs.Tick.{clock0, clock1}
 use Rattle.machine_tick.specs.InPlace.{pulsedIf}
-use Rattle.machine.specs.declared.Jumpers.{Jumpers}
-use Rattle.board_advance.specs.Advances.{State}
-use Rattle.board.specs.Stretches.{Works, afterEvent, afterEvents, ticksIn, freshState}
+use Rattle.machine_record.specs.declared.Jumpers.{Jumpers}
+use Rattle.board_step.specs.States.{State, Works, afterEvent}
+use Rattle.board.specs.Stretches.{afterEvents, ticksIn, freshState}
 use Rattle.board.specs.StretchSteps.{stretch-works, fresh-state-works}
 use Rattle.board.specs.DividerLaws.{run-free, counter-0, counter-1, next-100, next-1000, ticks-in}
-use Rattle.events.specs.declared.Event.{Event}
-use Rattle.events.specs.declared.Event.the-variants.{Tick}
+use Rattle.board_events.specs.declared.Event.{Event}
+use Rattle.board_events.specs.declared.Event.the-variants.{Tick}
 
 -- any jumpers, and any row of events since power-up: accesses, pins, resets, refused ones; the ticks among them count
 module _ (j : Jumpers) (zeroscale : Bool) (events : List Event) where
@@ -36,10 +36,10 @@ module _ (j : Jumpers) (zeroscale : Bool) (events : List Event) where
   pub thousand-runs : now .board .clocks .thousand ≡ ticksIn events % 1000
   thousand-runs = run-free (freshState j zeroscale) (fresh-state-works j zeroscale) events .thousand ∙ ap (λ (n : ℕ). n % 1000) (zero-add (ticksIn events))
 
-  -- ---- "and clock on every 100th and 1,000th tick": the tick that comes next brings counter 1 a CLK pulse, always (10 MHz) or, with FREQ12 (bit 7 of Base+10),
-  -- exactly where it is a 100th (100 kHz)
+  -- ---- "and clock on every 100th and 1,000th tick": the tick that comes next brings counter 1 a CLK pulse, always (10 MHz) or, with FREQ12 (bit 7 of
+  -- Base+10), exactly where it is a 100th (100 kHz)
   pub every-100th : afterEvent now Tick .board .clocks .timer .counter1
-      ≡ (if not (bit (now .board .registers .counting) 128) || eqb ((ticksIn events + 1) % 100) 0
+      ≡ (if not (bit (now .board .registers .counting) 7) || eqb ((ticksIn events + 1) % 100) 0
       then pulsed (now .board .clocks .timer .counter1) (gates (now .board) .gate12)
       else now .board .clocks .timer .counter1)
   every-100th =
@@ -49,7 +49,7 @@ module _ (j : Jumpers) (zeroscale : Bool) (events : List Event) where
 
   -- and counter 0, unless SRC0 (bit 1) gives it DIN0, always (10 MHz) or, with FREQ0 (bit 6), exactly where it is a 1,000th (10 kHz)
   pub every-1000th : afterEvent now Tick .board .clocks .timer .counter0
-      ≡ (if not (bit (now .board .registers .counting) 2) && (not (bit (now .board .registers .counting) 64) || eqb ((ticksIn events + 1) % 1000) 0)
+      ≡ (if not (bit (now .board .registers .counting) 1) && (not (bit (now .board .registers .counting) 6) || eqb ((ticksIn events + 1) % 1000) 0)
       then pulsed (now .board .clocks .timer .counter0) (gates (now .board) .gate0)
       else now .board .clocks .timer .counter0)
   every-1000th =

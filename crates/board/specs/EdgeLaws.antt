@@ -7,35 +7,35 @@ use Rattle.base.specs.Checks.{refusal}
 use Rattle.base.specs.Fields.{bit}
 use Rattle.base.specs.Flags.{on}
 use Rattle.fifo.specs.declared.Fifo.{Fifo}
-use Rattle.counting_modes.specs.Control.{setupOf}
-use Rattle.counting_modes.specs.declared.Setup.{Setup}
-use Rattle.counting_modes.specs.declared.Setup.the-variants.{Unprogrammed, Programmed}
-use Rattle.counting.specs.Counter.{gateMovedAs, gateMoved}
-use Rattle.counting.specs.Edges.{gate-no-fall}
-use Rattle.counting.specs.Still.{gate-still}
-use Rattle.counting.specs.declared.Counter.{Counter}
-use Rattle.timer.specs.Timer.{counterOf, gateOf, fell, gatesMoved}
+use Rattle.counter_modes.specs.Control.{setupOf}
+use Rattle.counter_modes.specs.declared.Setup.{Setup}
+use Rattle.counter_modes.specs.declared.Setup.the-variants.{Unprogrammed, Programmed}
+use Rattle.counter_one.specs.Counter.{gateMovedAs, gateMoved}
+use Rattle.counter_one.specs.Edges.{gate-no-fall}
+use Rattle.counter_one.specs.Still.{gate-still}
+use Rattle.counter_one.specs.declared.Counter.{Counter}
+use Rattle.counter_one.specs.Falls.{fell}
+use Rattle.timer.specs.Timer.{counterOf, gateOf, gatesMoved}
 use Rattle.timer.specs.Working.{WorkingTimer}
 use Rattle.timer.specs.declared.Select.{Select}
 use Rattle.timer.specs.declared.Select.the-variants.{Counter0, Counter1, Counter2}
-use Rattle.machine.specs.Parts.{withFifo}
-use Rattle.machine.specs.declared.Board.{Board}
+use Rattle.machine_record.specs.Parts.{withFifo}
+use Rattle.machine_record.specs.declared.Board.{Board}
 use Rattle.machine_clock.specs.Clock.{gates, countingWritten}
 use Rattle.machine_reset.specs.Reset.{isReset, boardReset, miscWritten}
 use Rattle.bus.specs.Place.{placeOf}
-use Rattle.bus.specs.Refusals.{writeChecks}
-use Rattle.bus.specs.Effects.{writeEffect}
-use Rattle.bus.specs.Write.{operationWritten, writtenAt}
+use Rattle.bus.specs.Bytes.{operationWritten}
+use Rattle.bus.specs.Registers.{writeChecks, writtenAt, writeEffect}
 use Rattle.board_refusal.specs.Refusals.{eventChecks}
 use Rattle.board_step.specs.Act.{acted}
 use Rattle.board_step.specs.Step.{fifoAfter, ran, stepOf}
 use Rattle.board_advance.specs.Advance.{rose, news}
-use Rattle.board_advance.specs.Advances.{State}
+use Rattle.board_advance.specs.Strided.{not-risen}
+use Rattle.board_step.specs.States.{State, Works, afterEvent}
 use Rattle.board.specs.Begins.{begins}
 use Rattle.board.specs.Held.{number-working}
-use Rattle.board.specs.Stretches.{Works, afterEvent}
 use Rattle.board.specs.Edges.{Unclocked, NoEdge}
-use Rattle.events.specs.declared.Event.the-variants.{WriteByte}
+use Rattle.board_events.specs.declared.Event.the-variants.{WriteByte}
 
 -- ---- a gate alone clocks nothing
 gate-unclocked : (c : Counter) (was is : Bool) → Unclocked c (gateMoved c was is)
@@ -46,14 +46,7 @@ gate-unclocked c was is = by (setupOf (c .control)) (gate-no-fall c was is)
     by Unprogrammed h = record { element = refl; register = refl; waiting = refl; loaded = refl; out = h }
     by (Programmed f m) h = record { element = refl; register = refl; waiting = refl; loaded = refl; out = h }
 
--- ---- a flag that is as it was, and one that is clear, has not gone up
-not-risen : (n : ℕ) → rose n n ≡ false
-not-risen n = by (on n)
-  where
-    by : (t : Bool) → not t && t ≡ false
-    by true = refl
-    by false = refl
-
+-- ---- a flag that is clear has not gone up
 cleared-not-risen : (n : ℕ) → rose n 0 ≡ false
 cleared-not-risen n = by (on n)
   where
@@ -74,7 +67,14 @@ module _ (b : Board) (v : ℕ) (f : Fifo) where
   -- the same flags and converter's state, or none of them set
   same-news : (c : Board) → c .converter .converting ≡ b .converter .converting → c .requests .flags ≡ b .requests .flags → news b c ≡ false
   same-news c k r =
-      rw (k, r, not-risen (b .converter .converting), not-risen (b .requests .flags .adint), not-risen (b .requests .flags .dint), not-risen (b .requests .flags .tint))
+      rw (
+        k,
+        r,
+        not-risen (b .converter .converting),
+        not-risen (b .requests .flags .adint),
+        not-risen (b .requests .flags .dint),
+        not-risen (b .requests .flags .tint),
+      )
 
   abbrev nine : Board
   nine = withFifo (operationWritten b v) f
@@ -102,7 +102,7 @@ module _ (b : Board) (v : ℕ) (f : Fifo) where
   edge-10 = record { begins-none = refl; no-news = same-news ten refl refl; gate-alone = gated-10; unclocked = all-unclocked ten gated-10 }
 
   abbrev anew : Board
-  anew = withFifo (boardReset b (bit v 32)) f
+  anew = withFifo (boardReset b (bit v 5)) f
 
   gated-reset : Gated anew
   unfolding boardReset gatesMoved
@@ -128,7 +128,8 @@ module _ (b : Board) (v : ℕ) (f : Fifo) where
 -- ---- and after the event
 module _ (s : State) (v : ℕ) (w : Works s) where
   written : (n : ℕ) → refusal (eventChecks (s .board) (WriteByte n v)) ≡ 0
-      → withFifo (writtenAt (s .board) (placeOf (s .board .registers .page) n) v) (fifoAfter (writeEffect (placeOf (s .board .registers .page) n) v) (s .board .fifo))
+      → withFifo (writtenAt (s .board) (placeOf (s .board .registers .page) n) v)
+      (fifoAfter (writeEffect (placeOf (s .board .registers .page) n) v) (s .board .fifo))
       ≡ afterEvent s (WriteByte n v) .board
   unfolding stepOf ran acted
   written n h = rw (eq-eqb _ _ (number-working (s .board) (s .memory) (s .eeprom) (WriteByte n v) (w .working) (w .long) ∙ h))

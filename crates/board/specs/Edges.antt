@@ -2,15 +2,16 @@
 use mathlib.Core.Path.{_≡_}
 use mathlib.Core.Bool.{false}
 use Rattle.base.specs.Flags.{on}
-use Rattle.counting.specs.Counter.{gateMoved}
-use Rattle.counting.specs.declared.Counter.{Counter}
-use Rattle.timer.specs.Timer.{counterOf, gateOf, fell}
+use Rattle.counter_one.specs.Counter.{gateMoved}
+use Rattle.counter_one.specs.declared.Counter.{Counter}
+use Rattle.counter_one.specs.Falls.{fell}
+use Rattle.timer.specs.Timer.{counterOf, gateOf}
 use Rattle.timer.specs.declared.Select.{Select}
 use Rattle.machine_clock.specs.Clock.{gates}
-use Rattle.machine.specs.declared.Board.{Board}
+use Rattle.machine_record.specs.declared.Board.{Board}
 use Rattle.board_advance.specs.Advance.{news}
 use Rattle.board.specs.Begins.{begins}
-use Rattle.events.specs.declared.Event.{Event}
+use Rattle.board_events.specs.declared.Event.{Event}
 
 -- a counter has had no CLK pulse: its count and what it is to load are as they were, and OUT has not fallen
 pub record Unclocked (c d : Counter) : Type 0 where

@@ -10,15 +10,15 @@ use lib.Dec.{eqb}
 use Rattle.base.specs.Choice.{if_then_else_}
 use Rattle.base.specs.Checks.{refusal}
 use Rattle.fifo.specs.Queue.{queue, layout}
-use Rattle.machine.specs.declared.Board.{Board}
-use Rattle.board_refusal.specs.Working.{workingBoard, WorkingBoard, board-to}
+use Rattle.machine_record.specs.declared.Board.{Board}
+use Rattle.board_refusal.specs.Working.{isWorkingBoard, WorkingBoard, board-to}
 use Rattle.board_refusal.specs.Refusals.{eventChecks, checks}
 use Rattle.board_step.specs.Passed.{Passed}
 use Rattle.board_step.specs.Step.{Ran, ran, ranFrom, number, refusedBy, stepOf, memoryAfter, eepromAfter}
 use Rattle.board.specs.Kept.{ran-holds}
-use Rattle.events.specs.declared.Answer.{Answer}
-use Rattle.events.specs.declared.Answer.the-variants.{Refused}
-use Rattle.events.specs.declared.Event.{Event}
+use Rattle.board_events.specs.declared.Answer.{Answer}
+use Rattle.board_events.specs.declared.Answer.the-variants.{Refused}
+use Rattle.board_events.specs.declared.Event.{Event}
 
 pub record Held : Type 0 where
   pub board : Board
@@ -32,8 +32,8 @@ eventNumber h event = refusal (eventChecks (h .board) event)
 abbrev pub ranHeld : Held → Event → Ran
 ranHeld h event = ran (h .board) (h .samples) (h .eeprom) event
 
-unfoldable pub answered : Held → Event → Answer
-answered h event = if eqb (eventNumber h event) 0 then ranHeld h event .answer else Refused (eventNumber h event)
+unfoldable pub heldAnswer : Held → Event → Answer
+heldAnswer h event = if eqb (eventNumber h event) 0 then ranHeld h event .answer else Refused (eventNumber h event)
 
 unfoldable pub happened : Held → Event → Held
 happened h event =
@@ -49,18 +49,18 @@ pub number-working : (b : Board) (m e : List ℕ) (ev : Event) → WorkingBoard 
 unfolding checks
 number-working b m e ev w l = rw (eq-eqb (length m) 512 (w .fifo .long), eq-eqb (length e) 128 l, board-to b m w)
 
-pub record Stepped (b : Board) (m e : List ℕ) (ev : Event) : Type 0 where
-  pub answer : stepOf b m e ev .answer ≡ answered (heldIn b m e) ev
+pub record AsHeld (b : Board) (m e : List ℕ) (ev : Event) : Type 0 where
+  pub answer : stepOf b m e ev .answer ≡ heldAnswer (heldIn b m e) ev
   pub held : heldIn (stepOf b m e ev .board) (memoryAfter b m e ev) (eepromAfter b m e ev) ≡ happened (heldIn b m e) ev
 
-pub step-held : (b : Board) (m e : List ℕ) (ev : Event) → WorkingBoard b m → length e ≡ 128 → Stepped b m e ev
-unfolding stepOf memoryAfter eepromAfter answered happened
+pub step-held : (b : Board) (m e : List ℕ) (ev : Event) → WorkingBoard b m → length e ≡ 128 → AsHeld b m e ev
+unfolding stepOf memoryAfter eepromAfter heldAnswer happened
 step-held b m e ev w l = by (eqb (refusal (eventChecks b ev)) 0) refl
   where
     same : number b m e ev ≡ refusal (eventChecks b ev)
     same = number-working b m e ev w l
 
-    by : (t : Bool) → eqb (refusal (eventChecks b ev)) 0 ≡ t → Stepped b m e ev
+    by : (t : Bool) → eqb (refusal (eventChecks b ev)) 0 ≡ t → AsHeld b m e ev
     by true h =
         let n : eqb (number b m e ev) 0 ≡ true = ap (λ (x : ℕ). eqb x 0) same ∙ h in
         let p : Passed b m e ev = record { works = w; long = l; event = eqb-true _ _ h } in

@@ -15,35 +15,35 @@ use Rattle.fifo.specs.Samples.{oldestOf}
 use Rattle.fifo.specs.Queue.{queue, layout, emptyFifo, pushedTo}
 use Rattle.fifo.specs.Queue.Laws.{clear-works}
 use Rattle.converter.specs.Working.{ended-works}
-use Rattle.calibration.specs.Laws as calibration
+use Rattle.calibration_registers.specs.Laws as calibration
 use Rattle.calibration_end.specs.Laws as ends
 use Rattle.calibration_end.specs.Ends.{eepromEnded}
-use Rattle.counting_modes.specs.Control.{command, setupOf}
-use Rattle.counting.specs.Counter.{gateMoved}
+use Rattle.counter_modes.specs.Control.{command, setupOf}
+use Rattle.counter_one.specs.Counter.{gateMoved}
 use Rattle.timer.specs.Timer.{gatesMoved}
-use Rattle.machine.specs.Fresh.{freshBoard}
+use Rattle.machine_record.specs.Fresh.{freshBoard}
 use Rattle.machine_reset.specs.Reset.{boardReset}
-use Rattle.machine.specs.Working.{WorkingMachine}
+use Rattle.machine_record.specs.Working.{WorkingMachine}
 use Rattle.base.specs.Flags.{nonzero, on-flag}
 use Rattle.converter.specs.Channels.{isLast}
 use Rattle.requests.specs.Working as requests
-use Rattle.machine.specs.Kept.{converter-kept, calibration-kept, same-working, fresh-working}
+use Rattle.machine_record.specs.Kept.{converter-kept, calibration-kept, same-working, fresh-working}
 use Rattle.machine_tick.specs.Kept.{ticked-works}
 use Rattle.machine_pins.specs.Kept.{din-works, latch-works, port-works}
-use Rattle.machine.specs.declared.Board.{Board}
-use Rattle.machine.specs.declared.Jumpers.{Jumpers}
+use Rattle.machine_record.specs.declared.Board.{Board}
+use Rattle.machine_record.specs.declared.Jumpers.{Jumpers}
 use Rattle.bus.specs.Place.{placeOf}
 use Rattle.bus.specs.Kept.{written-works}
 use Rattle.bus.specs.Kept.{read-works}
 use Rattle.board_refusal.specs.Working.{WorkingBoard}
 use Rattle.board_refusal.specs.Refusals.{eventChecks, checks}
 use Rattle.board_step.specs.Sampled.{effect-works, effect-holds}
-use Rattle.board_step.specs.Passed.{Passed, passed, din-levels-le}
+use Rattle.board_step.specs.Passed.{Passed, all-passed, din-levels-le}
 use Rattle.board_step.specs.Act.{dinLevels, acted, eepromActed}
 use Rattle.board_step.specs.Step.{ran, ranFrom, number, refusedBy, stepOf, memoryAfter, eepromAfter}
 use Rattle.board_step.specs.declared.Outcome.{Outcome}
-use Rattle.events.specs.declared.Event.{Event}
-use Rattle.events.specs.declared.Event.the-variants.{WriteByte, ReadByte, ReadWord, ConversionEnd, DinPins, LatchLevel, PortPins, Tick, TransferEnd}
+use Rattle.board_events.specs.declared.Event.{Event}
+use Rattle.board_events.specs.declared.Event.the-variants.{WriteByte, ReadByte, ReadWord, ConversionEnd, DinPins, LatchLevel, PortPins, Tick, TransferEnd}
 
 -- ---- the record
 pub acted-works : (b : Board) (o : ℕ) (e : List ℕ) (ev : Event) → WorkingMachine b → refusal (eventChecks b ev) ≡ 0
@@ -100,7 +100,7 @@ module _ (b : Board) (m e : List ℕ) (ev : Event) where
       by : (t : Bool) → eqb (number b m e ev) 0 ≡ t
           → WorkingBoard ((if t then record { board = ranFrom b m e ev .board; answer = ranFrom b m e ev .answer } else refusedBy b (number b m e ev)) .board)
           (if t then layout (ranFrom b m e ev .board .fifo) (ranFrom b m e ev .samples) else m)
-      by true h = ran-works b m e ev (passed b m e ev (eqb-true _ _ h))
+      by true h = ran-works b m e ev (all-passed b m e ev (eqb-true _ _ h))
       by false h = w
 
   pub eeprom-kept : length (eepromAfter b m e ev) ≡ length e

@@ -2,6 +2,7 @@ pub mod Kept
 pub mod Held
 pub mod Begins
 pub mod Resets
+pub mod Reads
 pub mod Conversions
 pub mod Abandoned
 pub mod Order

@@ -10,18 +10,18 @@ use lib.Dec.{eqb, ltb, leb}
 use Rattle.base.specs.Choice.{if_then_else_}
 use Rattle.base.specs.Checks.{Check, _refuses_, refusal}
 use Rattle.base.specs.Laws.{choice-le, both}
-use Rattle.machine.specs.declared.Board.{Board}
+use Rattle.machine_record.specs.declared.Board.{Board}
 use Rattle.bus.specs.Place.{placeOf}
-use Rattle.bus.specs.Refusals.{writeChecks, readChecks}
+use Rattle.bus.specs.Registers.{writeChecks, readChecks}
 use Rattle.bus.specs.declared.Place.{Place}
-use Rattle.bus.specs.declared.Place.the-variants.{Start, Digital, LowChannel, HighChannel, DacLeast, DacMost, Depth, FifoControl}
-use Rattle.bus.specs.declared.Place.the-variants.{Miscellaneous, Operation, CounterControl, Analog, Count, ControlWord, PortData, PortControl}
-use Rattle.bus.specs.declared.Place.the-variants.{Reserved, Auxiliary, CalData, CalAddress, CalCommand, CalKey, Outside}
-use Rattle.board_refusal.specs.Working.{workingBoard}
+use Rattle.bus.specs.declared.Place.the-variants.{Base0, Base1, Base2, Base3, Base4, Base5, Base6, Base7}
+use Rattle.bus.specs.declared.Place.the-variants.{Base8, Base9, Base10, Base11, Count, ControlWord, PortData, PortControl}
+use Rattle.bus.specs.declared.Place.the-variants.{Reserved, Auxiliary, CalData, CalAddress, CalBase14, CalBase15, Outside}
+use Rattle.board_refusal.specs.Working.{isWorkingBoard}
 use Rattle.board_step.specs.Step.{number}
 use Rattle.board_refusal.specs.Refusals.{eventChecks, checks}
-use Rattle.events.specs.declared.Event.{Event}
-use Rattle.events.specs.declared.Event.the-variants.{WriteByte, ReadByte, ReadWord, ConversionEnd, DinPins, LatchLevel, PortPins, Tick, TransferEnd}
+use Rattle.board_events.specs.declared.Event.{Event}
+use Rattle.board_events.specs.declared.Event.the-variants.{WriteByte, ReadByte, ReadWord, ConversionEnd, DinPins, LatchLevel, PortPins, Tick, TransferEnd}
 
 -- the place of a refusal number in the order
 abbrev pub rank : ℕ → ℕ
@@ -45,18 +45,18 @@ ordered n (c ∷ cs) = ltb n (rank (c .number)) && ordered (rank (c .number)) cs
 
 write-order : (b : Board) (p : Place) (v : ℕ) → ordered 2 (writeChecks b p v) ≡ true
 unfolding writeChecks
-write-order b Start v = refl
-write-order b Digital v = refl
-write-order b LowChannel v = refl
-write-order b HighChannel v = refl
-write-order b DacLeast v = refl
-write-order b DacMost v = refl
-write-order b Depth v = refl
-write-order b FifoControl v = refl
-write-order b Miscellaneous v = refl
-write-order b Operation v = refl
-write-order b CounterControl v = refl
-write-order b Analog v = refl
+write-order b Base0 v = refl
+write-order b Base1 v = refl
+write-order b Base2 v = refl
+write-order b Base3 v = refl
+write-order b Base4 v = refl
+write-order b Base5 v = refl
+write-order b Base6 v = refl
+write-order b Base7 v = refl
+write-order b Base8 v = refl
+write-order b Base9 v = refl
+write-order b Base10 v = refl
+write-order b Base11 v = refl
 write-order b (Count s) v = refl
 write-order b ControlWord v = refl
 write-order b (PortData q) v = refl
@@ -65,24 +65,24 @@ write-order b Reserved v = refl
 write-order b Auxiliary v = refl
 write-order b CalData v = refl
 write-order b CalAddress v = refl
-write-order b CalCommand v = refl
-write-order b CalKey v = refl
+write-order b CalBase14 v = refl
+write-order b CalBase15 v = refl
 write-order b Outside v = refl
 
 read-order : (p : Place) → ordered 2 (readChecks p) ≡ true
 unfolding readChecks
-read-order Start = refl
-read-order Digital = refl
-read-order LowChannel = refl
-read-order HighChannel = refl
-read-order DacLeast = refl
-read-order DacMost = refl
-read-order Depth = refl
-read-order FifoControl = refl
-read-order Miscellaneous = refl
-read-order Operation = refl
-read-order CounterControl = refl
-read-order Analog = refl
+read-order Base0 = refl
+read-order Base1 = refl
+read-order Base2 = refl
+read-order Base3 = refl
+read-order Base4 = refl
+read-order Base5 = refl
+read-order Base6 = refl
+read-order Base7 = refl
+read-order Base8 = refl
+read-order Base9 = refl
+read-order Base10 = refl
+read-order Base11 = refl
 read-order (Count s) = refl
 read-order ControlWord = refl
 read-order (PortData q) = refl
@@ -91,8 +91,8 @@ read-order Reserved = refl
 read-order Auxiliary = refl
 read-order CalData = refl
 read-order CalAddress = refl
-read-order CalCommand = refl
-read-order CalKey = refl
+read-order CalBase14 = refl
+read-order CalBase15 = refl
 read-order Outside = refl
 
 event-order : (b : Board) (ev : Event) → ordered 2 (eventChecks b ev) ≡ true

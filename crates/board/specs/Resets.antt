@@ -9,24 +9,24 @@ use Rattle.base.specs.Laws.{by-choice, by-test, never}
 use Rattle.machine_reset.specs.Reset.{isReset}
 use Rattle.bus.specs.Place.{fixedPlace, pagedPlace, placeOf}
 use Rattle.bus.specs.declared.Place.{Place}
-use Rattle.bus.specs.declared.Place.the-variants.{Start, Digital, LowChannel, HighChannel, DacLeast, DacMost, Depth, FifoControl}
-use Rattle.bus.specs.declared.Place.the-variants.{Miscellaneous, Operation, CounterControl, Analog, Count, ControlWord, PortData, PortControl}
-use Rattle.bus.specs.declared.Place.the-variants.{Reserved, Auxiliary, CalData, CalAddress, CalCommand, CalKey, Outside}
+use Rattle.bus.specs.declared.Place.the-variants.{Base0, Base1, Base2, Base3, Base4, Base5, Base6, Base7}
+use Rattle.bus.specs.declared.Place.the-variants.{Base8, Base9, Base10, Base11, Count, ControlWord, PortData, PortControl}
+use Rattle.bus.specs.declared.Place.the-variants.{Reserved, Auxiliary, CalData, CalAddress, CalBase14, CalBase15, Outside}
 
 -- whether a byte written at a place resets the board
 abbrev pub placeResets : Place → ℕ → Bool
-placeResets Start v = false
-placeResets Digital v = false
-placeResets LowChannel v = false
-placeResets HighChannel v = false
-placeResets DacLeast v = false
-placeResets DacMost v = false
-placeResets Depth v = false
-placeResets FifoControl v = false
-placeResets Miscellaneous v = isReset v
-placeResets Operation v = false
-placeResets CounterControl v = false
-placeResets Analog v = false
+placeResets Base0 v = false
+placeResets Base1 v = false
+placeResets Base2 v = false
+placeResets Base3 v = false
+placeResets Base4 v = false
+placeResets Base5 v = false
+placeResets Base6 v = false
+placeResets Base7 v = false
+placeResets Base8 v = isReset v
+placeResets Base9 v = false
+placeResets Base10 v = false
+placeResets Base11 v = false
 placeResets (Count s) v = false
 placeResets ControlWord v = false
 placeResets (PortData q) v = false
@@ -35,8 +35,8 @@ placeResets Reserved v = false
 placeResets Auxiliary v = false
 placeResets CalData v = false
 placeResets CalAddress v = false
-placeResets CalCommand v = false
-placeResets CalKey v = false
+placeResets CalBase14 v = false
+placeResets CalBase15 v = false
 placeResets Outside v = false
 
 module _ (n v : ℕ) where

@@ -1,4 +1,5 @@
--- A board that works goes on to work, and what one event of a stretch leaves of DACBUSY's count and of the dividers: laws for the theorems over stretches of events.
+-- A board that works goes on to work, and what one event of a stretch leaves of DACBUSY's count and of the dividers: laws for the theorems over stretches of
+-- events.
 use Prim.Native.Nat.{ℕ, _-_}
 use mathlib.Core.Path.{_≡_, refl, sym, ap, _∙_}
 use mathlib.Core.Bool.{Bool, true, false, _&&_}
@@ -9,24 +10,24 @@ use Rattle.base.specs.Checks.{refusal}
 use Rattle.base.specs.Laws.{by-test, never}
 use Rattle.fifo.specs.Samples.{oldestOf}
 use Rattle.fifo.specs.Queue.{queue}
-use Rattle.machine.specs.declared.Jumpers.{Jumpers}
-use Rattle.machine.specs.declared.Board.{Board}
+use Rattle.machine_record.specs.declared.Jumpers.{Jumpers}
+use Rattle.machine_record.specs.declared.Board.{Board}
 use Rattle.board_refusal.specs.Refusals.{eventChecks}
-use Rattle.board_step.specs.Passed.{passed}
+use Rattle.board_step.specs.Passed.{all-passed}
 use Rattle.board_step.specs.Step.{ran, ranFrom, stepOf}
 use Rattle.board_step.specs.declared.Outcome.{Outcome}
-use Rattle.board_advance.specs.Advances.{State}
+use Rattle.board_step.specs.States.{State, Works, numberAt, afterEvent}
 use Rattle.board.specs.Kept.{step-kept, eeprom-kept, fresh-works}
 use Rattle.board.specs.Held.{number-working}
 use Rattle.board.specs.Begins.{resets}
-use Rattle.board.specs.Stretches.{Works, numberAt, afterEvent, afterEvents, ticksOf, isLoad, freshState}
+use Rattle.board.specs.Stretches.{afterEvents, ticksOf, isLoad, freshState}
 use Rattle.board.specs.StretchLaws.{Moves, dividers-move, busy-moves}
-use Rattle.events.specs.declared.Event.{Event}
-use Rattle.events.specs.declared.Event.the-variants.{WriteByte, ReadByte, ReadWord, ConversionEnd, DinPins, LatchLevel, PortPins, Tick, TransferEnd}
+use Rattle.board_events.specs.declared.Event.{Event}
+use Rattle.board_events.specs.declared.Event.the-variants.{WriteByte, ReadByte, ReadWord, ConversionEnd, DinPins, LatchLevel, PortPins, Tick, TransferEnd}
 
 -- ---- a board that works goes on to work
 pub taken-works : (s : State) (ev : Event) → numberAt s ev ≡ 0 → Works s
-taken-works s ev h = let p = passed (s .board) (s .memory) (s .eeprom) ev h in record { working = p .works; long = p .long }
+taken-works s ev h = let p = all-passed (s .board) (s .memory) (s .eeprom) ev h in record { working = p .works; long = p .long }
 
 pub works-on : (s : State) (ev : Event) → Works s → Works (afterEvent s ev)
 works-on s ev w = record {
@@ -82,5 +83,6 @@ module _ (s : State) (ev : Event) (w : Works s) where
   unfolding ran
   dividers-step =
       after-one (λ (c : Board). Moves (s .board) c (ticksOf ev))
-      (λ t. let f = dividers-move (s .board) (oldestOf (queue (s .board .fifo) (s .memory))) (s .eeprom) ev in record { hundred = f .hundred; thousand = f .thousand })
+      (λ t. let f = dividers-move (s .board) (oldestOf (queue (s .board .fifo) (s .memory))) (s .eeprom) ev in
+      record { hundred = f .hundred; thousand = f .thousand })
       (λ z. record { hundred = rw z; thousand = rw z })

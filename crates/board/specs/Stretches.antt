@@ -1,42 +1,20 @@
--- Stretches of events: a board with its memories, and what a row of events, each a step of its own, leaves of them. What is refused changes nothing, so a
+-- Stretches of events: what a row of events, each a step of its own, leaves of a board with its memories. What is refused changes nothing, so a
 -- row may hold refused events.
 use Prim.Native.Nat.{ℕ, _+_}
 use mathlib.Core.Path.{_≡_}
 use mathlib.Core.Bool.{Bool, false, _&&_}
 use mathlib.Core.List.{List, [], _∷_}
-use lib.ListN.{length, replicate}
+use lib.ListN.{replicate}
 use lib.Dec.{eqb}
 use Rattle.fifo.specs.Queue.{layout, emptyFifo}
-use Rattle.machine.specs.Fresh.{freshBoard}
-use Rattle.machine.specs.declared.Jumpers.{Jumpers}
-use Rattle.board_refusal.specs.Working.{WorkingBoard}
-use Rattle.board_step.specs.Step.{number, stepOf, memoryAfter, eepromAfter}
-use Rattle.board_advance.specs.Advances.{State}
+use Rattle.machine_record.specs.Fresh.{freshBoard}
+use Rattle.machine_record.specs.declared.Jumpers.{Jumpers}
+use Rattle.board_step.specs.States.{State, numberAt, afterEvent}
 use Rattle.board.specs.Begins.{resets}
-use Rattle.events.specs.declared.Answer.{Answer}
-use Rattle.events.specs.declared.Event.{Event}
-use Rattle.events.specs.declared.Event.the-variants.{WriteByte, ReadByte, ReadWord, ConversionEnd, DinPins, LatchLevel, PortPins, Tick, TransferEnd}
+use Rattle.board_events.specs.declared.Event.{Event}
+use Rattle.board_events.specs.declared.Event.the-variants.{WriteByte, ReadByte, ReadWord, ConversionEnd, DinPins, LatchLevel, PortPins, Tick, TransferEnd}
 
--- a working board, with an EEPROM of the right length; the sample memory of a working board has its own
-pub record Works (s : State) : Type 0 where
-  pub working : WorkingBoard (s .board) (s .memory)
-  pub long : length (s .eeprom) ≡ 128
-
--- ---- one event: the number that it is refused by (0: it is not), its answer, and what it leaves
-abbrev pub numberAt : State → Event → ℕ
-numberAt s event = number (s .board) (s .memory) (s .eeprom) event
-
-abbrev pub answerAt : State → Event → Answer
-answerAt s event = stepOf (s .board) (s .memory) (s .eeprom) event .answer
-
-abbrev pub afterEvent : State → Event → State
-afterEvent s event = record {
-  board = stepOf (s .board) (s .memory) (s .eeprom) event .board;
-  memory = memoryAfter (s .board) (s .memory) (s .eeprom) event;
-  eeprom = eepromAfter (s .board) (s .memory) (s .eeprom) event;
-}
-
--- ---- a row of them, the first first
+-- ---- a row of events, the first first
 abbrev pub afterEvents : State → List Event → State
 afterEvents s [] = s
 afterEvents s (event ∷ events) = afterEvents (afterEvent s event) events

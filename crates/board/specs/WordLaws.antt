@@ -12,19 +12,16 @@ use Rattle.fifo.specs.Queue.{queue}
 use Rattle.fifo.specs.Queue.Laws.{layout-queue}
 use Rattle.fifo.specs.Queue.Steps.{pop-none, oldest-none}
 use Rattle.bus.specs.Place.{placeOf}
-use Rattle.bus.specs.Refusals.{readChecks}
-use Rattle.bus.specs.Effects.{readEffect}
-use Rattle.bus.specs.Read.{byteAt, afterRead}
+use Rattle.bus.specs.Registers.{readChecks, byteAt, afterRead, readEffect}
 use Rattle.board_refusal.specs.Refusals.{eventChecks, checks}
 use Rattle.board_step.specs.Act.{acted, eepromActed}
 use Rattle.board_step.specs.Step.{ran, stepOf, memoryAfter, eepromAfter}
-use Rattle.board_advance.specs.Advances.{State}
+use Rattle.board_step.specs.States.{State, Works, numberAt, answerAt, afterEvent}
 use Rattle.board.specs.Answers.{valueBrought, answer-value}
 use Rattle.board.specs.Held.{number-working}
-use Rattle.board.specs.Stretches.{Works, numberAt, answerAt, afterEvent}
 use Rattle.board.specs.StretchSteps.{taken-works}
-use Rattle.events.specs.Answers.{valueRead}
-use Rattle.events.specs.declared.Event.the-variants.{ReadByte, ReadWord}
+use Rattle.board_events.specs.Answers.{valueRead}
+use Rattle.board_events.specs.declared.Event.the-variants.{ReadByte, ReadWord}
 
 module _ (s : State) where
   -- ---- the three are refused by one number
@@ -90,6 +87,6 @@ module _ (s : State) where
       let o : oldest ≡ 65535 = sym (oldest-none (s .board .fifo) (s .memory) h) in
       (word-of ∙ rw (n, o), low-of ∙ rw (n, o), high-of ∙ rw (n, o))
 
-pub joined : (t : Bool) (n : ℕ) → (if t then n else 0) ≡ (if t then n % 256 else 0) + 256 * (if t then n / 256 else 0)
-joined true n = omega arith
-joined false n = refl
+pub bytes-joined : (t : Bool) (n : ℕ) → (if t then n else 0) ≡ (if t then n % 256 else 0) + 256 * (if t then n / 256 else 0)
+bytes-joined true n = omega arith
+bytes-joined false n = refl

@@ -1,12 +1,16 @@
 // The board: one record by value, two lent memories, one event at a time. `step` answers every event, from whatever record, memories and
 // numbers come in; each kind of event has a step of its own; `advance` makes many ticks in one call.
 ghost use mathlib.Core.Path.{_≡_};
-ghost use Rattle.machine.specs.Fresh.{freshBoard};
+ghost use Rattle.machine_record.specs.Fresh.{freshBoard};
 ghost use Rattle.board_step.specs.Step.{stepOf, memoryAfter, eepromAfter};
 pub use board_advance::Advanced;
 pub use board_advance::Progress;
 pub use board_advance::advance;
 pub use board_advance::ticks_until;
+pub use board_events::Answer;
+pub use board_events::Din;
+pub use board_events::Event;
+pub use board_events::Port;
 pub use board_reads::read_byte;
 pub use board_reads::read_word;
 pub use board_refusal::is_working;
@@ -19,10 +23,6 @@ pub use board_signals::transfer_end;
 pub use board_step::Outcome;
 pub use board_stores::fresh_stores;
 pub use board_writes::write_byte;
-pub use events::Answer;
-pub use events::Din;
-pub use events::Event;
-pub use events::Port;
 pub use machine::Board;
 pub use machine::Jumpers;
 

@@ -6,23 +6,23 @@ use mathlib.Core.Bool.{Bool, true, false, not, _&&_, _||_}
 use mathlib.Core.List.{List}
 use Rattle.base.specs.Flags.{on}
 use Rattle.base.specs.Laws.{never, not-true}
-use Rattle.converter.specs.Channels.{triggered, clockTriggered}
+use Rattle.converter.specs.Channels.{triggered}
 use Rattle.converter.specs.declared.channels.Converter.{Converter}
 use Rattle.requests.specs.Requests.{askedTimer}
 use Rattle.requests.specs.declared.Requests.{Requests}
 use Rattle.timer.specs.declared.Gates.{Gates}
-use Rattle.machine.specs.Parts.{withConverter, withRequests, withClocks, withOutputs}
-use Rattle.machine.specs.declared.Board.{Board}
+use Rattle.machine_record.specs.Parts.{withConverter, withRequests, withClocks, withOutputs}
+use Rattle.machine_record.specs.declared.Board.{Board}
 use Rattle.machine_clock.specs.Clock.{gates}
-use Rattle.strides.specs.Strides.{strideOf}
-use Rattle.strides.specs.declared.Stride.{Stride}
+use Rattle.machine_strides.specs.Strides.{strideOf}
+use Rattle.machine_strides.specs.declared.Stride.{Stride}
 use Rattle.board_stores.specs.Stores.{wrongLengths}
-use Rattle.board_refusal.specs.Working.{workingBoard}
+use Rattle.board_refusal.specs.Working.{isWorkingBoard}
 use Rattle.board_refusal.specs.Refusals.{eventChecks, checks}
 use Rattle.board_step.specs.Ways.{Opened}
-use Rattle.events.specs.declared.Answer.the-variants.{Refused, Done}
+use Rattle.board_events.specs.declared.Answer.the-variants.{Refused, Done}
 use Rattle.board_advance.specs.Advance.{advancedFrom, advancedOf}
-use Rattle.board_advance.specs.Strided.{heeds0, heeds2, strideAt, shown, strided, unheeded}
+use Rattle.board_advance.specs.Strided.{heeds0, heeds2, strideAt, strideEnd, strided, unheeded}
 use Rattle.board_advance.specs.declared.Advanced.{Advanced}
 
 -- ---- the stride
@@ -31,26 +31,19 @@ pub strides : (b : Board) (n : ℕ) {g : Gates} {h0 h2 : Bool} {s : Stride} → 
 unfolding strideAt
 strides b n g h0 h2 s = s ∙ rw (g, h0, h2)
 
--- with CLKEN and CLKSEL a falling OUT2 is the trigger
-by-out2 : (v s u : Bool) → v && s && u ≡ v && (s && u || not s && false && not false)
-by-out2 true true true = refl
-by-out2 true true false = refl
-by-out2 true false u = refl
-by-out2 false s u = refl
-
 module _ (b : Board) (m e : List ℕ) (n : ℕ) where
   -- ---- refused by 2, and by 1
   pub wrong : wrongLengths m e ≡ true → record { board = b; progress = record { answer = Refused 2; done = 0 } } ≡ advancedOf b m e n
   unfolding advancedOf checks
   wrong h = rw h
 
-  pub broken : {w : Bool} → wrongLengths m e ≡ false → w ≡ workingBoard b m → not w ≡ true
+  pub broken : {w : Bool} → wrongLengths m e ≡ false → w ≡ isWorkingBoard b m → not w ≡ true
       → record { board = b; progress = record { answer = Refused 1; done = 0 } } ≡ advancedOf b m e n
   unfolding advancedOf checks
-  broken {w} l k h = let f : workingBoard b m ≡ false = sym k ∙ not-true w h in rw (l, f)
+  broken {w} l k h = let f : isWorkingBoard b m ≡ false = sym k ∙ not-true w h in rw (l, f)
 
   -- ---- not refused
-  pub strode : Opened b m e → advancedOf b m e n ≡ shown b (strideAt b n)
+  pub strode : Opened b m e → advancedOf b m e n ≡ strideEnd b (strideAt b n)
   unfolding advancedOf checks eventChecks
   strode o = rw (o .long, o .working) (strided b m e n o)
 
@@ -63,7 +56,7 @@ module _ (b : Board) (m e : List ℕ) (n : ℕ) where
         progress = record { answer = Done; done = s .done };
       } ≡ advancedOf b m e n
   brought {s = s} o s≡ y q v =
-      rw (v, q, y, by-out2 (on (b .converter .clken)) (on (b .requests .clksel)) (s .fell2)) (ap (shown b) s≡) ∙ sym (strode o)
+      rw (v, q, y) (ap (strideEnd b) s≡) ∙ sym (strode o)
 
   -- ---- and of `ticks_until`
   pub until : {s : Stride} → Opened b m e → s ≡ strideAt b n → s .done ≡ advancedOf b m e n .progress .done

@@ -6,10 +6,10 @@ use mathlib.Core.List.{List}
 use lib.Dec.{eqb}
 use Rattle.base.specs.Choice.{if_then_else_}
 use Rattle.base.specs.Flags.{on}
-use Rattle.machine.specs.declared.Board.{Board}
+use Rattle.machine_record.specs.declared.Board.{Board}
 use Rattle.board_step.specs.Step.{number, stepOf, memoryAfter, eepromAfter}
-use Rattle.events.specs.declared.Answer.the-variants.{Refused, Done}
-use Rattle.events.specs.declared.Event.the-variants.{Tick}
+use Rattle.board_events.specs.declared.Answer.the-variants.{Refused, Done}
+use Rattle.board_events.specs.declared.Event.the-variants.{Tick}
 use Rattle.board_advance.specs.declared.Advanced.{Advanced}
 
 -- ---- whether a conversion has begun, or a request flag gone up, from one record to another

@@ -1,5 +1,5 @@
--- What `advancedOf` says, in terms of events: k ticks were done and led to this record, none before the k-th brought news, and k is all of them or the k-th did;
--- of a board that is not refused both memories stay as they were, and every tick is answered by done.
+-- What `advancedOf` says, in terms of events: k ticks were done and led to this record, none before the k-th brought news, and k is all of them or the k-th
+-- did; of a board that is not refused both memories stay as they were, and every tick is answered by done.
 use Prim.Native.Nat.{ℕ, zero, suc, _+_, _≤_, _<_}
 use native.Mathlib.Omega.{arith}
 use mathlib.Core.Path.{_≡_, refl, sym, ap, _∙_, subst}
@@ -8,27 +8,19 @@ use mathlib.Core.List.{List}
 use borrow.Author.Tests.{eq-eqb, ne-eqb}
 use Rattle.base.specs.Choice.{if_then_else_}
 use Rattle.base.specs.Laws.{by-test}
-use Rattle.machine.specs.declared.Board.{Board}
-use Rattle.board_step.specs.Step.{number, stepOf, memoryAfter, eepromAfter}
+use Rattle.machine_record.specs.declared.Board.{Board}
+use Rattle.board_step.specs.Step.{number}
+use Rattle.board_step.specs.States.{State, afterEvent}
 use Rattle.board_step.specs.Ways.{Opened, opens}
 use Rattle.board_step.specs.Ticked.{tickedBoard, tick-step, tick-opens}
-use Rattle.events.specs.declared.Answer.the-variants.{Refused, Done}
-use Rattle.events.specs.declared.Event.the-variants.{Tick}
+use Rattle.board_events.specs.declared.Answer.the-variants.{Refused, Done}
+use Rattle.board_events.specs.declared.Event.the-variants.{Tick}
 use Rattle.board_advance.specs.Advance.{news, advancedFrom, advancedOf}
 use Rattle.board_advance.specs.declared.Advanced.{Advanced}
 
 -- ---- k tick events
-pub record State : Type 0 where
-  pub board : Board
-  pub memory : List ℕ
-  pub eeprom : List ℕ
-
 abbrev pub afterTick : State → State
-afterTick s = record {
-  board = stepOf (s .board) (s .memory) (s .eeprom) Tick .board;
-  memory = memoryAfter (s .board) (s .memory) (s .eeprom) Tick;
-  eeprom = eepromAfter (s .board) (s .memory) (s .eeprom) Tick;
-}
+afterTick s = afterEvent s Tick
 
 abbrev pub afterTicks : ℕ → State → State
 afterTicks zero s = s
@@ -59,7 +51,8 @@ module _ (m e : List ℕ) where
 
   pub one-tick : (n d : ℕ) (b : Board) → Opened b m e
       → advancedFrom (suc n) d b m e
-      ≡ (if news b (tickedBoard b) then record { board = tickedBoard b; progress = record { answer = Done; done = suc d } } else advancedFrom n (suc d) (tickedBoard b) m e)
+      ≡ (if news b (tickedBoard b) then record { board = tickedBoard b; progress = record { answer = Done; done = suc d } }
+      else advancedFrom n (suc d) (tickedBoard b) m e)
   one-tick n d b o = let p = tick-step b m e o in rw (sym (p .0), sym (p .1 .0), sym (p .1 .1))
 
   -- ---- the ticks after the first

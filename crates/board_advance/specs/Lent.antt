@@ -3,7 +3,7 @@
 use Prim.Native.Nat.{ℕ}
 use mathlib.Core.Path.{_≡_, refl, sym, _∙_}
 use mathlib.Core.List.{List}
-use Rattle.machine.specs.declared.Board.{Board}
+use Rattle.machine_record.specs.declared.Board.{Board}
 use Rattle.board_advance.specs.Advance.{advancedOf}
 use Rattle.board_advance.specs.declared.Progress.{Progress}
 
@@ -15,14 +15,10 @@ pub record Moved {X : Type 0} (form : Progress → X) (b : Board) (m e : List �
   pub memory : m′ ≡ m
   pub eeprom : e′ ≡ e
 
--- the answer as it is
-abbrev pub same : Progress → Progress
-same p = p
-
 -- what `advance` by value gives is such an outcome
-pub moved : {X : Type 0} (form : Progress → X) (b : Board) (m e : List ℕ) (ticks : ℕ)
+pub moved-by-value : {X : Type 0} (form : Progress → X) (b : Board) (m e : List ℕ) (ticks : ℕ)
     → Moved form b m e ticks (form (advancedOf b m e ticks .progress)) (advancedOf b m e ticks .board) m e
-moved form b m e ticks = record { answer = refl; board = refl; memory = refl; eeprom = refl }
+moved-by-value form b m e ticks = record { answer = refl; board = refl; memory = refl; eeprom = refl }
 
 -- and the only one: two outcomes that the promise permits are equal
 pub determined : {X : Type 0} {form : Progress → X} {b : Board} {m e : List ℕ} {ticks : ℕ} {x x′ : X} {b₁ b₂ : Board} {m₁ m₂ e₁ e₂ : List ℕ}

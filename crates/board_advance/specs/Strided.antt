@@ -6,22 +6,22 @@ use mathlib.Core.Bool.{Bool, true, false, not, _&&_, _||_}
 use mathlib.Core.List.{List}
 use Rattle.base.specs.Choice.{if_then_else_}
 use Rattle.base.specs.Flags.{on, flag, on-flag, flag-on}
-use Rattle.base.specs.Laws.{never, both}
-use Rattle.converter.specs.Channels.{started, triggered, clockTrigger, clockTriggered}
+use Rattle.base.specs.Laws.{both, neither}
+use Rattle.converter.specs.Channels.{started, triggered, internalTrigger, internalTriggered}
 use Rattle.converter.specs.declared.channels.Converter.{Converter}
 use Rattle.requests.specs.Requests.{withFlags, askedTimer}
 use Rattle.requests.specs.declared.Requests.{Requests}
 use Rattle.timer.specs.declared.Gates.{Gates}
-use Rattle.machine.specs.Parts.{withConverter, withRequests, withClocks, withOutputs}
-use Rattle.machine.specs.declared.Clocks.{Clocks}
-use Rattle.machine.specs.declared.Board.{Board}
+use Rattle.machine_record.specs.Parts.{withConverter, withRequests, withClocks, withOutputs}
+use Rattle.machine_record.specs.declared.Clocks.{Clocks}
+use Rattle.machine_record.specs.declared.Board.{Board}
 use Rattle.machine_clock.specs.Clock.{gates}
 use Rattle.machine_tick.specs.InPlace.{clocksTicked, falls0, falls2, broughtBy, no-edge, no-ask}
-use Rattle.strides.specs.Strides.{heard, strideFrom, strideOf}
-use Rattle.strides.specs.declared.Stride.{Stride}
+use Rattle.machine_strides.specs.Strides.{heard, strideFrom, strideOf}
+use Rattle.machine_strides.specs.declared.Stride.{Stride}
 use Rattle.board_step.specs.Ways.{Opened, working}
 use Rattle.board_step.specs.Ticked.{tickedBoard, tick-opens}
-use Rattle.events.specs.declared.Answer.the-variants.{Done}
+use Rattle.board_events.specs.declared.Answer.the-variants.{Done}
 use Rattle.board_advance.specs.Advance.{rose, news, advancedFrom}
 use Rattle.board_advance.specs.Advances.{one-tick}
 use Rattle.board_advance.specs.declared.Advanced.{Advanced}
@@ -42,16 +42,16 @@ movedTo b l d =
     withOutputs (withClocks b l)
     (record { codes = b .outputs .codes; load = b .outputs .load; lsb = b .outputs .lsb; busy = b .outputs .busy - d })
 
-abbrev pub shown : Board → Stride → Advanced
-shown b s = record {
+abbrev pub strideEnd : Board → Stride → Advanced
+strideEnd b s = record {
   board =
       withConverter (withRequests (movedTo b (s .clocks) (s .done)) (askedTimer (b .requests) (s .fell0)))
-      (clockTriggered (b .converter) (on (b .requests .clksel)) (s .fell2) false false);
+      (internalTriggered (b .converter) (on (b .requests .clksel)) (s .fell2));
   progress = record { answer = Done; done = s .done };
 }
 
 -- ---- a tick brings news where it is heard
-not-risen : (n : ℕ) → rose n n ≡ false
+pub not-risen : (n : ℕ) → rose n n ≡ false
 not-risen n = by (on n)
   where
     by : (x : Bool) → not x && x ≡ false
@@ -74,13 +74,13 @@ asks r f = rw (on-flag (on (r .flags .tint) || on (r .tinte) && f)) (by (on (r .
     by false true f = refl
     by false false f = refl
 
-by-out2 : (k s v f : Bool) → (k && (s && f || not s && false && not false)) && not v ≡ (k && s && not v) && f
-by-out2 true true true true = refl
-by-out2 true true true false = refl
-by-out2 true true false true = refl
-by-out2 true true false false = refl
-by-out2 true false v f = refl
-by-out2 false s v f = refl
+fall-last : (k s v f : Bool) → (k && s && f) && not v ≡ (k && s && not v) && f
+fall-last true true true true = refl
+fall-last true true true false = refl
+fall-last true true false true = refl
+fall-last true true false false = refl
+fall-last true false v f = refl
+fall-last false s v f = refl
 
 in-order : (a b : Bool) → a || false || false || b ≡ b || a
 in-order true true = refl
@@ -94,15 +94,11 @@ news-heard b l =
     let k = on (b .converter .clken) in
     let s = on (b .requests .clksel) in
     let v = on (b .converter .converting) in
-    let e = begins (b .converter) (clockTrigger (b .converter) s f2 false false) ∙ by-out2 k s v f2 in
+    let e = begins (b .converter) (internalTrigger (b .converter) s f2) ∙ fall-last k s v f2 in
     rw (e, not-risen (b .requests .flags .adint), not-risen (b .requests .flags .dint), asks (b .requests) (falls0 (b .clocks) l))
     (in-order ((k && s && not v) && f2) (heeds0 b && falls0 (b .clocks) l))
 
 -- ---- and otherwise leaves requests and converter
-neither : (a b : Bool) → a || b ≡ false → (a ≡ false) × (b ≡ false)
-neither true b h = never (sym h)
-neither false b h = (refl, h)
-
 not-asked : (r : Requests) (f : Bool) → r .flags .tint ≤ 1 → (on (r .tinte) && not (on (r .flags .tint))) && f ≡ false → askedTimer r f ≡ r
 not-asked r f w h =
     ap (λ (x : ℕ). withFlags r (record { adint = r .flags .adint; dint = r .flags .dint; tint = x }))
@@ -113,8 +109,8 @@ not-asked r f w h =
     by false true f h = h
     by false false f h = refl
 
-not-begun : (c : Converter) (s f : Bool) → (on (c .clken) && s && not (on (c .converting))) && f ≡ false → clockTriggered c s f false false ≡ c
-not-begun c s f h = rw (by-out2 (on (c .clken)) s (on (c .converting)) f ∙ h)
+not-begun : (c : Converter) (s f : Bool) → (on (c .clken) && s && not (on (c .converting))) && f ≡ false → internalTriggered c s f ≡ c
+not-begun c s f h = rw (fall-last (on (c .clken)) s (on (c .converting)) f ∙ h)
 
 module _ (b : Board) (m e : List ℕ) where
   abbrev stepped : Clocks → Clocks
@@ -132,23 +128,25 @@ module _ (b : Board) (m e : List ℕ) where
 
   -- ---- n ticks more, d done, by strides
   pub strided-from : (n d : ℕ) (l : Clocks) → Opened (movedTo b l d) m e
-      → advancedFrom n d (movedTo b l d) m e ≡ shown b (strideFrom (b .registers .counting) (gates b) (heeds0 b) (heeds2 b) n d l)
+      → advancedFrom n d (movedTo b l d) m e ≡ strideEnd b (strideFrom (b .registers .counting) (gates b) (heeds0 b) (heeds2 b) n d l)
   strided-from zero d l o =
       let w = working o .machine .requests .tint in
       rw (no-ask (b .requests) false w refl, no-edge (b .converter) false (on (b .requests .clksel)) refl)
   strided-from (suc n) d l o =
-      one-tick m e n d (movedTo b l d) o ∙ rw (news-heard (movedTo b l d) (stepped l)) (by (λ k. strided-from n (suc d) (stepped l) k) (heard (heeds0 b) (heeds2 b) l (stepped l)) refl)
+      one-tick m e n d (movedTo b l d) o
+      ∙ rw (news-heard (movedTo b l d) (stepped l)) (by (λ k. strided-from n (suc d) (stepped l) k) (heard (heeds0 b) (heeds2 b) l (stepped l)) refl)
     where
-      by : (Opened (movedTo b (stepped l) (suc d)) m e → advancedFrom n (suc d) (movedTo b (stepped l) (suc d)) m e ≡ shown b (rest n d l))
+      by : (Opened (movedTo b (stepped l) (suc d)) m e → advancedFrom n (suc d) (movedTo b (stepped l) (suc d)) m e ≡ strideEnd b (rest n d l))
           → (h : Bool) → heard (heeds0 b) (heeds2 b) l (stepped l) ≡ h
-          → (if h then record { board = tickedBoard (movedTo b l d); progress = record { answer = Done; done = suc d } } else advancedFrom n (suc d) (tickedBoard (movedTo b l d)) m e)
-          ≡ shown b (if h then record { clocks = stepped l; done = suc d; fell0 = falls0 l (stepped l); fell2 = falls2 l (stepped l) } else rest n d l)
+          → (if h then record { board = tickedBoard (movedTo b l d); progress = record { answer = Done; done = suc d } }
+          else advancedFrom n (suc d) (tickedBoard (movedTo b l d)) m e)
+          ≡ strideEnd b (if h then record { clocks = stepped l; done = suc d; fell0 = falls0 l (stepped l); fell2 = falls2 l (stepped l) } else rest n d l)
       by on true h = let z : b .outputs .busy - d - 1 ≡ b .outputs .busy - suc d = omega arith in rw z
       by on false h =
           let t = unheard l d (working o .machine .requests .tint) h in
           ap (λ (x : Board). advancedFrom n (suc d) x m e) t ∙ on (subst (λ (x : Board). Opened x m e) t (tick-opens (movedTo b l d) m e o))
 
-  pub strided : (n : ℕ) → Opened b m e → advancedFrom n 0 b m e ≡ shown b (strideAt b n)
+  pub strided : (n : ℕ) → Opened b m e → advancedFrom n 0 b m e ≡ strideEnd b (strideAt b n)
   unfolding strideAt strideOf
   strided n o =
       let z : b .outputs .busy - 0 ≡ b .outputs .busy = omega arith in

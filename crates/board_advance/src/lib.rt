@@ -1,10 +1,10 @@
-// Many ticks in one call: specs/Advance.antt says what they come to, one event after another; crates/strides takes them at once where it can.
-use events::Answer;
+// Many ticks in one call: specs/Advance.antt says what they come to, one event after another; crates/machine_strides takes them at once where it can.
+use board_events::Answer;
 use machine::Board;
-use strides::Stride;
+use machine::Stride;
 ghost use Prim.Native.Nat.{_-_};
 ghost use mathlib.Core.Path.{_≡_};
-ghost use Rattle.machine.specs.Working.{WorkingMachine};
+ghost use Rattle.machine_record.specs.Working.{WorkingMachine};
 ghost use Rattle.board_advance.specs.Advance.{advancedOf};
 ghost use Rattle.board_advance.specs.Strided.{heeds0, heeds2, strideAt};
 
@@ -50,8 +50,8 @@ fn stride(b: Board, ticks: u32) -> Stride
     requires { ⌜ WorkingMachine b ⌝ }
     ensures { λ r. ⌜ r ≡ strideAt b ticks ⌝ }
 {
-    let g = machine_clock::gates_at(b.registers.counting, b.pins.din);
-    strides::run(
+    let g = machine::gates_at(b.registers.counting, b.pins.din);
+    machine::run(
         b.clocks,
         b.registers.counting,
         g,

@@ -7,22 +7,21 @@ use borrow.Author.Tests.{eq-eqb, ne-eqb}
 use lib.Dec.{eqb}
 use Rattle.base.specs.Checks.{refusal}
 use Rattle.bus.specs.Place.{placeOf}
-use Rattle.bus.specs.Effects.{Keep, Take, readEffect}
-use Rattle.bus.specs.Refusals.{readChecks}
-use Rattle.bus.specs.Read.{byteAt, afterRead}
+use Rattle.bus.specs.Effects.{Keep, Take}
+use Rattle.bus.specs.Registers.{readChecks, byteAt, afterRead, readEffect}
 use Rattle.bus.specs.declared.Place.{Place}
 use Rattle.fifo.specs.Queue.{queue, Leaves, poppedFrom}
 use Rattle.fifo.specs.Samples.{oldestOf, popped}
 use Rattle.fifo.specs.declared.Fifo.{Fifo}
-use Rattle.machine.specs.Parts.{withFifo}
-use Rattle.machine.specs.declared.Board.{Board}
+use Rattle.machine_record.specs.Parts.{withFifo}
+use Rattle.machine_record.specs.declared.Board.{Board}
 use Rattle.board_refusal.specs.Refusals.{eventChecks}
 use Rattle.board_step.specs.Act.{acted, eepromActed}
 use Rattle.board_step.specs.Step.{ran}
 use Rattle.board_step.specs.Ways.{Promised, Opened, laid, refused, done}
 use Rattle.board_step.specs.declared.Outcome.{Outcome}
-use Rattle.events.specs.declared.Answer.the-variants.{Refused, Byte, Word}
-use Rattle.events.specs.declared.Event.the-variants.{ReadByte, ReadWord}
+use Rattle.board_events.specs.declared.Answer.the-variants.{Refused, Byte, Word}
+use Rattle.board_events.specs.declared.Event.the-variants.{ReadByte, ReadWord}
 
 -- ---- a byte is read at a place
 module _ (b : Board) (m e : List ℕ) (n : ℕ) {p k : Place} (o : Opened b m e) (at : p ≡ placeOf (b .registers .page) n) (told : p ≡ k) where

@@ -1,12 +1,12 @@
 // Reads of the guest: each makes its checks in their order, finds the place once, and there refuses, or shows and does what a read of that place shows
-// and does (specs/Read.antt and specs/Effects.antt of bus). `c` is the record as it becomes.
+// and does (specs/Registers.antt of bus). `c` is the record as it becomes.
+use board_events::Answer;
 use board_step::Outcome;
 use bus::Place;
-use events::Answer;
 use machine::Board;
 ghost use mathlib.Core.Path.{_≡_};
 ghost use Rattle.board_step.specs.Step.{stepOf, memoryAfter, eepromAfter};
-ghost use Rattle.events.specs.declared.Event.the-variants.{ReadByte, ReadWord};
+ghost use Rattle.board_events.specs.declared.Event.the-variants.{ReadByte, ReadWord};
 
 // The guest reads a byte at an offset.
 pub fn read_byte(board: Board, memory: &mut [u16], eeprom: &mut [u8], offset: u32) -> Outcome
@@ -22,39 +22,39 @@ pub fn read_byte(board: Board, memory: &mut [u16], eeprom: &mut [u8], offset: u3
     } else {
         let p = bus::map::find(c.registers.page, offset);
         match p {
-            Place::Start => Answer::Byte((fifo::oldest(c.fifo, memory) % 256) as u8),
-            Place::Digital => {
+            Place::Base0 => Answer::Byte((fifo::oldest(c.fifo, memory) % 256) as u8),
+            Place::Base1 => {
                 let v = (fifo::oldest(c.fifo, memory) / 256) as u8;
                 let f = fifo::pop(c.fifo, memory);
                 c.fifo = f;
                 Answer::Byte(v)
             }
-            Place::LowChannel => Answer::Byte(c.converter.low),
-            Place::HighChannel => Answer::Byte(c.converter.high),
-            Place::DacLeast => Answer::Byte(bus::bytes::input_bits(
+            Place::Base2 => Answer::Byte(c.converter.low),
+            Place::Base3 => Answer::Byte(c.converter.high),
+            Place::Base4 => Answer::Byte(bus::bytes::input_bits(
                 c.outputs,
                 c.calibration,
                 c.pins.din,
             )),
-            Place::DacMost => {
+            Place::Base5 => {
                 let v = outputs::update_byte(c.outputs);
                 c.outputs = outputs::update(c.outputs);
                 Answer::Byte(v)
             }
-            Place::Depth => Answer::Byte(c.requests.threshold),
-            Place::FifoControl => {
+            Place::Base6 => Answer::Byte(c.requests.threshold),
+            Place::Base7 => {
                 let flags = fifo::flag_bits(c.fifo);
                 let modes = requests::mode_bits(c.converter, c.requests);
                 Answer::Byte(flags + modes + c.registers.page % 4)
             }
-            Place::Miscellaneous => Answer::Byte(bus::bytes::ad_bits(c.converter, c.wiring.inputs)),
-            Place::Operation => Answer::Byte(requests::request_bits(c.converter, c.requests)),
-            Place::CounterControl => Answer::Byte(c.registers.counting),
-            Place::Analog => Answer::Byte(c.registers.range),
+            Place::Base8 => Answer::Byte(bus::bytes::ad_bits(c.converter, c.wiring.inputs)),
+            Place::Base9 => Answer::Byte(requests::request_bits(c.converter, c.requests)),
+            Place::Base10 => Answer::Byte(c.registers.counting),
+            Place::Base11 => Answer::Byte(c.registers.range),
             Place::Count(s) => {
-                let r = timer_bus::read(c.clocks.timer, s);
+                let r = timer::accesses::read(c.clocks.timer, s);
                 let t = r.timer;
-                c.clocks = machine_clock::put_timer(c.clocks, t);
+                c.clocks = machine::put_timer(c.clocks, t);
                 Answer::Byte(r.byte)
             }
             Place::ControlWord => Answer::Byte(0),
@@ -64,8 +64,8 @@ pub fn read_byte(board: Board, memory: &mut [u16], eeprom: &mut [u8], offset: u3
             Place::Auxiliary => Answer::Refused(7),
             Place::CalData => Answer::Byte(calibration::read_value(c.calibration)),
             Place::CalAddress => Answer::Byte(calibration::read_address(c.calibration)),
-            Place::CalCommand => Answer::Byte(calibration::read_status(c.calibration)),
-            Place::CalKey => Answer::Byte(calibration::read_revision()),
+            Place::CalBase14 => Answer::Byte(calibration::read_status(c.calibration)),
+            Place::CalBase15 => Answer::Byte(calibration::read_revision()),
             Place::Outside => Answer::Refused(3),
         }
     };

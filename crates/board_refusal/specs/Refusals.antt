@@ -6,14 +6,14 @@ use mathlib.Core.List.{List, [], _∷_}
 use lib.Dec.{eqb, ltb}
 use Rattle.base.specs.Flags.{on}
 use Rattle.base.specs.Checks.{Check, _refuses_}
-use Rattle.calibration.specs.Registers.{nothingRuns}
-use Rattle.machine.specs.declared.Board.{Board}
+use Rattle.calibration_registers.specs.Registers.{nothingRuns}
+use Rattle.machine_record.specs.declared.Board.{Board}
 use Rattle.bus.specs.Place.{placeOf}
-use Rattle.bus.specs.Refusals.{writeChecks, readChecks}
+use Rattle.bus.specs.Registers.{writeChecks, readChecks}
 use Rattle.board_stores.specs.Stores.{wrongLengths}
-use Rattle.board_refusal.specs.Working.{workingBoard}
-use Rattle.events.specs.declared.Event.{Event}
-use Rattle.events.specs.declared.Event.the-variants.{WriteByte, ReadByte, ReadWord, ConversionEnd, DinPins, LatchLevel, PortPins, Tick, TransferEnd}
+use Rattle.board_refusal.specs.Working.{isWorkingBoard}
+use Rattle.board_events.specs.declared.Event.{Event}
+use Rattle.board_events.specs.declared.Event.the-variants.{WriteByte, ReadByte, ReadWord, ConversionEnd, DinPins, LatchLevel, PortPins, Tick, TransferEnd}
 
 -- of a working board
 unfoldable pub eventChecks : Board → Event → List Check
@@ -31,5 +31,5 @@ eventChecks b TransferEnd = nothingRuns (b .calibration) refuses 10 ∷ []
 unfoldable pub checks : Board → List ℕ → List ℕ → Event → List Check
 checks b memory eeprom event =
     wrongLengths memory eeprom refuses 2
-    ∷ not (workingBoard b memory) refuses 1
+    ∷ not (isWorkingBoard b memory) refuses 1
     ∷ eventChecks b event

@@ -4,10 +4,10 @@ use mathlib.Core.Path.{_≡_}
 use mathlib.Core.Bool.{Bool, true}
 use mathlib.Core.List.{List, [], _∷_}
 use Rattle.base.specs.Tests.{all, each, every}
-use Rattle.fifo.specs.Queue.{isWorking, WorkingFifo}
-use Rattle.fifo.specs.Queue.Laws.{working-of, working-to}
-use Rattle.machine.specs.Working.{workingMachine, WorkingMachine, machine-of, machine-to}
-use Rattle.machine.specs.declared.Board.{Board}
+use Rattle.fifo.specs.Queue.{isWorkingFifo, WorkingFifo}
+use Rattle.fifo.specs.Queue.Laws.{fifo-of, fifo-to}
+use Rattle.machine_record.specs.Working.{isWorkingMachine, WorkingMachine, machine-of, machine-to}
+use Rattle.machine_record.specs.declared.Board.{Board}
 
 pub record WorkingBoard (b : Board) (memory : List ℕ) : Type 0 where
   -- every register, channel, port, counter and divider is within its range
@@ -17,18 +17,18 @@ pub record WorkingBoard (b : Board) (memory : List ℕ) : Type 0 where
 
 -- the test that the code makes
 abbrev pub boardTests : Board → List ℕ → List Bool
-boardTests b memory = workingMachine b ∷ isWorking (b .fifo) memory ∷ []
+boardTests b memory = isWorkingMachine b ∷ isWorkingFifo (b .fifo) memory ∷ []
 
-unfoldable pub workingBoard : Board → List ℕ → Bool
-workingBoard b memory = all (boardTests b memory)
+unfoldable pub isWorkingBoard : Board → List ℕ → Bool
+isWorkingBoard b memory = all (boardTests b memory)
 
 -- ---- the test holds where the facts do, and only there
-pub board-of : (b : Board) (memory : List ℕ) → workingBoard b memory ≡ true → WorkingBoard b memory
-unfolding workingBoard
+pub board-of : (b : Board) (memory : List ℕ) → isWorkingBoard b memory ≡ true → WorkingBoard b memory
+unfolding isWorkingBoard
 board-of b memory h =
     let e = each (boardTests b memory) h in
-    record { machine = machine-of b (e .0); fifo = working-of (b .fifo) memory (e .1 .0) }
+    record { machine = machine-of b (e .0); fifo = fifo-of (b .fifo) memory (e .1 .0) }
 
-pub board-to : (b : Board) (memory : List ℕ) → WorkingBoard b memory → workingBoard b memory ≡ true
-unfolding workingBoard
-board-to b memory w = every (boardTests b memory) (machine-to b (w .machine), (working-to (b .fifo) memory (w .fifo), tt))
+pub board-to : (b : Board) (memory : List ℕ) → WorkingBoard b memory → isWorkingBoard b memory ≡ true
+unfolding isWorkingBoard
+board-to b memory w = every (boardTests b memory) (machine-to b (w .machine), (fifo-to (b .fifo) memory (w .fifo), tt))

@@ -12,19 +12,19 @@ use Rattle.requests.specs.declared.Requests.{Requests}
 use Rattle.ports.specs.Ports.{pinsSet}
 use Rattle.ports.specs.declared.Ports.{Ports}
 use Rattle.ports.specs.declared.Port.{Port}
-use Rattle.calibration.specs.Registers.{nothingRuns}
-use Rattle.calibration.specs.declared.Calibration.{Calibration}
+use Rattle.calibration_registers.specs.Registers.{nothingRuns}
+use Rattle.calibration_registers.specs.declared.Calibration.{Calibration}
 use Rattle.calibration_end.specs.Ends as transfers
-use Rattle.machine.specs.Parts.{withRequests, withPorts, withPins, withCalibration}
-use Rattle.machine.specs.declared.Board.{Board}
-use Rattle.machine_clock.specs.Clock.{turned}
+use Rattle.machine_record.specs.Parts.{withRequests, withPorts, withPins, withCalibration}
+use Rattle.machine_record.specs.declared.Board.{Board}
+use Rattle.machine_clock.specs.Clock.{timerMoved}
 use Rattle.machine_pins.specs.Pins.{dinMoved, din0Clocked, din3Triggered, dinSet, latchSet, portSet}
 use Rattle.board_refusal.specs.Refusals.{eventChecks}
 use Rattle.board_step.specs.Act.{acted, eepromActed}
 use Rattle.board_step.specs.Step.{ran}
 use Rattle.board_step.specs.Ways.{Promised, Opened, laid, refused, done}
-use Rattle.events.specs.declared.Answer.the-variants.{Refused, Done}
-use Rattle.events.specs.declared.Event.the-variants.{DinPins, LatchLevel, PortPins, TransferEnd}
+use Rattle.board_events.specs.declared.Answer.the-variants.{Refused, Done}
+use Rattle.board_events.specs.declared.Event.the-variants.{DinPins, LatchLevel, PortPins, TransferEnd}
 
 module _ (b : Board) (m e : List ℕ) where
   -- ---- the DIN pins, the Latch pin, the pins of a port
@@ -34,12 +34,13 @@ module _ (b : Board) (m e : List ℕ) where
 
   pub din : {n : ℕ} {d : Board} → Opened b m e → n ≤ 15 → d ≡ dinSet b (n % 16)
       → Promised b m e (DinPins (record { lines = n })) (record { board = d; answer = Done }) m e
-  unfolding eventChecks ran acted eepromActed dinSet din3Triggered din0Clocked dinMoved turned
+  unfolding eventChecks ran acted eepromActed dinSet din3Triggered din0Clocked dinMoved timerMoved
   din {n} o h d =
       done b m e (DinPins (record { lines = n })) o (rw (le-ltb 15 n h)) (record { outcome = rw d; memory = laid o; eeprom = refl })
 
   pub latch : (level : ℕ) {q : Requests} → Opened b m e → q ≡ askedLatch (b .requests) (not (on (b .pins .latch)) && not (eqb level 0))
-      → Promised b m e (LatchLevel level) (record { board = withPins (withRequests b q) (record { din = b .pins .din; latch = flag (not (eqb level 0)) }); answer = Done }) m e
+      → Promised b m e (LatchLevel level)
+      (record { board = withPins (withRequests b q) (record { din = b .pins .din; latch = flag (not (eqb level 0)) }); answer = Done }) m e
   unfolding eventChecks ran acted eepromActed latchSet
   latch level o q = done b m e (LatchLevel level) o refl (record { outcome = rw q; memory = laid o; eeprom = refl })
 

@@ -18,14 +18,14 @@ use Rattle.converter.specs.declared.channels.Converter.{Converter}
 use Rattle.requests.specs.Requests.{withFlags, askedAd, thresholdOf}
 use Rattle.requests.specs.Working.{WorkingRequests}
 use Rattle.requests.specs.declared.Requests.{Requests}
-use Rattle.machine.specs.Parts.{withFifo, withConverter, withRequests}
-use Rattle.machine.specs.declared.Board.{Board}
+use Rattle.machine_record.specs.Parts.{withFifo, withConverter, withRequests}
+use Rattle.machine_record.specs.declared.Board.{Board}
 use Rattle.board_refusal.specs.Refusals.{eventChecks}
 use Rattle.board_step.specs.Act.{acted, eepromActed}
 use Rattle.board_step.specs.Step.{ran}
 use Rattle.board_step.specs.Ways.{Promised, Opened, working, refused, done}
-use Rattle.events.specs.declared.Answer.the-variants.{Refused, Done}
-use Rattle.events.specs.declared.Event.the-variants.{ConversionEnd}
+use Rattle.board_events.specs.declared.Answer.the-variants.{Refused, Done}
+use Rattle.board_events.specs.declared.Event.the-variants.{ConversionEnd}
 
 -- ---- an end inside a scan asks for nothing: d is ADINT, a ADINTE
 unasked : (r : Requests) {l : Bool} (h : ℕ) → WorkingRequests r → l ≡ false → r ≡ askedAd r l h

@@ -5,21 +5,21 @@ use mathlib.Core.Bool.{Bool, true, false, not, _&&_, _||_}
 use mathlib.Core.List.{List}
 use Rattle.base.specs.Choice.{if_then_else_}
 use Rattle.base.specs.Flags.{on}
-use Rattle.converter.specs.Channels.{triggered, clockTriggered}
+use Rattle.converter.specs.Channels.{triggered, internalTriggered}
 use Rattle.converter.specs.declared.channels.Converter.{Converter}
 use Rattle.requests.specs.Requests.{askedTimer}
 use Rattle.requests.specs.declared.Requests.{Requests}
-use Rattle.counting.specs.Counter.{pulsed}
-use Rattle.counting.specs.declared.Counter.{Counter}
-use Rattle.timer.specs.Timer.{out, fell}
-use Rattle.timer.specs.Edges.{no-fall}
+use Rattle.counter_one.specs.Counter.{pulsed}
+use Rattle.counter_one.specs.declared.Counter.{Counter}
+use Rattle.counter_one.specs.Falls.{fell, no-fall}
+use Rattle.timer.specs.Timer.{out}
 use Rattle.timer.specs.declared.Gates.{Gates}
 use Rattle.timer.specs.declared.Select.the-variants.{Counter0, Counter1, Counter2}
 use Rattle.outputs.specs.Outputs as outputs
 use Rattle.outputs.specs.declared.Outputs.{Outputs}
-use Rattle.machine.specs.Parts.{withConverter, withRequests, withClocks, withOutputs}
-use Rattle.machine.specs.declared.Clocks.{Clocks}
-use Rattle.machine.specs.declared.Board.{Board}
+use Rattle.machine_record.specs.Parts.{withConverter, withRequests, withClocks, withOutputs}
+use Rattle.machine_record.specs.declared.Clocks.{Clocks}
+use Rattle.machine_record.specs.declared.Board.{Board}
 use Rattle.machine_clock.specs.Clock.{gates}
 use Rattle.machine_tick.specs.Tick.{clock0, clock1, nextTick}
 use Rattle.machine_tick.specs.InPlace.{pulsedIf, counter0Of, counter1Of, counter2Of, clocksTicked, no-edge, tick-of}
@@ -27,8 +27,8 @@ use Rattle.board_refusal.specs.Refusals.{eventChecks}
 use Rattle.board_step.specs.Act.{acted, eepromActed}
 use Rattle.board_step.specs.Step.{ran}
 use Rattle.board_step.specs.Ways.{Promised, Opened, working, laid, done}
-use Rattle.events.specs.declared.Answer.the-variants.{Done}
-use Rattle.events.specs.declared.Event.the-variants.{Tick}
+use Rattle.board_events.specs.declared.Answer.the-variants.{Done}
+use Rattle.board_events.specs.declared.Event.the-variants.{Tick}
 
 -- the counters and the dividers after a tick
 abbrev counter0 : Board → Counter
@@ -51,7 +51,7 @@ abbrev asked0 : Board → Requests
 asked0 b = askedTimer (b .requests) (fell (out (b .clocks .timer) Counter0) (on (counter0 b .count .out)))
 
 abbrev triggered2 : Board → Converter
-triggered2 b = clockTriggered (b .converter) (on (b .requests .clksel)) (fell (out (b .clocks .timer) Counter2) (on (counter2 b .count .out))) false false
+triggered2 b = internalTriggered (b .converter) (on (b .requests .clksel)) (fell (out (b .clocks .timer) Counter2) (on (counter2 b .count .out)))
 
 -- ---- what the ways bring together: counter 0 with the request, counters 1 and 2 with the trigger
 pub record First (b : Board) (k : Counter) (q : Requests) : Type 0 where
@@ -63,16 +63,10 @@ pub record Second (b : Board) (k l : Counter) (v : Converter) : Type 0 where
   pub counter2 : l ≡ counter2 b
   pub trigger : v ≡ triggered2 b
 
--- with CLKEN and CLKSEL a falling OUT2 is the trigger
-by-out2 : (v s u : Bool) → v && s && u ≡ v && (s && u || not s && false && not false)
-by-out2 true true true = refl
-by-out2 true true false = refl
-by-out2 true false u = refl
-by-out2 false s u = refl
-
 module _ (b : Board) {n : ℕ} {g : Gates} {p : Bool} (gate : g ≡ gates b) where
   pub first : {k : Counter} {f : Bool} {q : Requests} → n ≡ thousandOf b → p ≡ clock0 (b .registers .counting) n
-      → k ≡ pulsedIf p (b .clocks .timer .counter0) (g .gate0) → f ≡ fell (out (b .clocks .timer) Counter0) (on (k .count .out)) → q ≡ askedTimer (b .requests) f
+      → k ≡ pulsedIf p (b .clocks .timer .counter0) (g .gate0) → f ≡ fell (out (b .clocks .timer) Counter0) (on (k .count .out))
+      → q ≡ askedTimer (b .requests) f
       → First b k q
   first {k} h i k≡ f q = let c : k ≡ counter0 b = k≡ ∙ rw (i, h, gate) in record { counter = c; request = q ∙ rw (f, c) }
 
@@ -85,10 +79,13 @@ module _ (b : Board) {n : ℕ} {g : Gates} {p : Bool} (gate : g ≡ gates b) whe
         record {
           counter1 = rw (clocks-1 j);
           counter2 = rw (clocks-1 j, no-fall (out (b .clocks .timer) Counter1));
-          trigger = sym (no-edge (b .converter) _ (on (b .requests .clksel)) (rw (clocks-1 j, no-fall (out (b .clocks .timer) Counter1)) (no-fall (out (b .clocks .timer) Counter2))));
+          trigger =
+              sym (no-edge (b .converter) _ (on (b .requests .clksel))
+              (rw (clocks-1 j, no-fall (out (b .clocks .timer) Counter1)) (no-fall (out (b .clocks .timer) Counter2))));
         }
 
-    module _ (j : p ≡ true) {k : Counter} {f : Bool} (k≡ : k ≡ pulsed (b .clocks .timer .counter1) (g .gate12)) (f≡ : f ≡ fell (out (b .clocks .timer) Counter1) (on (k .count .out))) where
+    module _ (j : p ≡ true) {k : Counter} {f : Bool} (k≡ : k ≡ pulsed (b .clocks .timer .counter1) (g .gate12))
+        (f≡ : f ≡ fell (out (b .clocks .timer) Counter1) (on (k .count .out))) where
       counted : k ≡ counter1 b
       counted = k≡ ∙ rw (gate, clocks-1 j)
 
@@ -109,7 +106,7 @@ module _ (b : Board) {n : ℕ} {g : Gates} {p : Bool} (gate : g ≡ gates b) whe
           → Second b k l v
       falls-1 {l} {u = u} t l≡ u≡ v =
           let c : l ≡ counter2 b = l≡ ∙ rw (gate, fallen t) in
-          record { counter1 = counted; counter2 = c; trigger = v ∙ rw (by-out2 (on (b .converter .clken)) (on (b .requests .clksel)) u, u≡, c) }
+          record { counter1 = counted; counter2 = c; trigger = v ∙ rw (u≡, c) }
 
 -- ---- the whole event
 pub tick : (b : Board) (m e : List ℕ) {h th : ℕ} {k0 k1 k2 : Counter} {q : Requests} {v : Converter} {w : Outputs} {l : Clocks} → Opened b m e

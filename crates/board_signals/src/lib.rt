@@ -1,16 +1,16 @@
 // The events that do not come over the bus: a conversion ends, pins take new levels, the clock ticks, a transfer ends. Each makes its checks in their order,
 // and then does what the event does (specs/Act.antt of board_step). `c` is the record as it becomes.
+use board_events::Answer;
 use board_step::Outcome;
-use counting::Counter;
-use events::Answer;
+use counter::Counter;
 use machine::Board;
 use ports::Port;
 ghost use mathlib.Core.Path.{_≡_};
 ghost use Rattle.base.specs.Choice.{if_then_else_};
-ghost use Rattle.counting.specs.Counter.{pulsed};
-ghost use Rattle.counting.specs.Working.{Working};
+ghost use Rattle.counter_one.specs.Counter.{pulsed};
+ghost use Rattle.counter_one.specs.Working.{WorkingCounter};
 ghost use Rattle.board_step.specs.Step.{stepOf, memoryAfter, eepromAfter};
-ghost use Rattle.events.specs.declared.Event.the-variants.{ConversionEnd, DinPins, LatchLevel, PortPins, Tick, TransferEnd};
+ghost use Rattle.board_events.specs.declared.Event.the-variants.{ConversionEnd, DinPins, LatchLevel, PortPins, Tick, TransferEnd};
 
 // The conversion in progress ends with a signed code: its sample is kept, or lost at 512 held; the scan is over, and ADINT may be asked for, or it goes on.
 pub fn conversion_end(board: Board, memory: &mut [u16], eeprom: &mut [u8], code: i16) -> Outcome
@@ -53,7 +53,7 @@ pub fn din_pins(board: Board, memory: &mut [u16], eeprom: &mut [u8], lines: u32)
     } else if lines > 15 {
         Answer::Refused(5)
     } else {
-        c = machine_pins::set_din(c, (lines % 16) as u8);
+        c = machine::set_din(c, (lines % 16) as u8);
         Answer::Done
     };
     Outcome { board: c, answer }
@@ -105,11 +105,11 @@ pub fn port_pins(
 
 // A counter after a CLK pulse, where its clock has one.
 fn pulse_if(k: Counter, gate: bool, clocks: bool) -> Counter
-    requires { ⌜ Working k ⌝ }
+    requires { ⌜ WorkingCounter k ⌝ }
     ensures { λ r. ⌜ r ≡ (if clocks then pulsed k gate else k) ⌝ }
 {
     if clocks {
-        counting::pulse_working(k, gate)
+        counter::pulse_working(k, gate)
     } else {
         k
     }
@@ -127,31 +127,31 @@ pub fn tick(board: Board, memory: &mut [u16], eeprom: &mut [u8]) -> Outcome
     } else if !board_refusal::is_working(c, memory) {
         Answer::Refused(1)
     } else {
-        let hundred = machine_tick::next_tick(c.clocks.hundred, 99);
-        let thousand = machine_tick::next_tick(c.clocks.thousand, 999);
+        let hundred = machine::next_tick(c.clocks.hundred, 99);
+        let thousand = machine::next_tick(c.clocks.thousand, 999);
         c.clocks.hundred = hundred;
         c.clocks.thousand = thousand;
         c.outputs = outputs::tick(c.outputs);
-        let g = machine_clock::gates_at(c.registers.counting, c.pins.din);
+        let g = machine::gates_at(c.registers.counting, c.pins.din);
         let was0 = c.clocks.timer.counter0.count.out == 1;
-        let clocks0 = machine_tick::clocks_0(c.registers.counting, thousand);
+        let clocks0 = machine::clocks_0(c.registers.counting, thousand);
         let k0 = pulse_if(c.clocks.timer.counter0, g.gate0, clocks0);
         let mut t0 = c.clocks.timer;
         t0.counter0 = k0;
-        c.clocks = machine_clock::put_timer(c.clocks, t0);
+        c.clocks = machine::put_timer(c.clocks, t0);
         c.requests = requests::ask_timer(c.requests, timer::has_fallen(was0, k0.count.out == 1));
-        if machine_tick::clocks_1(c.registers.counting, hundred) {
+        if machine::clocks_1(c.registers.counting, hundred) {
             let was1 = c.clocks.timer.counter1.count.out == 1;
-            let k1 = counting::pulse_working(c.clocks.timer.counter1, g.gate12);
+            let k1 = counter::pulse_working(c.clocks.timer.counter1, g.gate12);
             let mut t1 = c.clocks.timer;
             t1.counter1 = k1;
-            c.clocks = machine_clock::put_timer(c.clocks, t1);
+            c.clocks = machine::put_timer(c.clocks, t1);
             if timer::has_fallen(was1, k1.count.out == 1) {
                 let was2 = c.clocks.timer.counter2.count.out == 1;
-                let k2 = counting::pulse_working(c.clocks.timer.counter2, g.gate12);
+                let k2 = counter::pulse_working(c.clocks.timer.counter2, g.gate12);
                 let mut t2 = c.clocks.timer;
                 t2.counter2 = k2;
-                c.clocks = machine_clock::put_timer(c.clocks, t2);
+                c.clocks = machine::put_timer(c.clocks, t2);
                 let fell = timer::has_fallen(was2, k2.count.out == 1);
                 let triggers = (c.converter.clken == 1) & (c.requests.clksel == 1) & fell;
                 c.converter = converter::channels::trigger(c.converter, triggers);
@@ -176,7 +176,7 @@ pub fn transfer_end(board: Board, memory: &mut [u16], eeprom: &mut [u8]) -> Outc
     } else if calibration::is_idle(c.calibration) {
         Answer::Refused(10)
     } else {
-        c.calibration = calibration_end::end_transfer(c.calibration, eeprom);
+        c.calibration = calibration::end_transfer(c.calibration, eeprom);
         Answer::Done
     };
     Outcome { board: c, answer }

@@ -6,15 +6,15 @@ use mathlib.Core.List.{List}
 use Rattle.base.specs.Flags.{nonzero}
 use Rattle.converter.specs.Codes.{sampleOf}
 use Rattle.calibration_end.specs.Ends as transfers
-use Rattle.machine.specs.Parts.{withCalibration}
+use Rattle.machine_record.specs.Parts.{withCalibration}
 use Rattle.machine_tick.specs.Tick.{ticked}
 use Rattle.machine_pins.specs.Pins.{dinSet, latchSet, portSet}
-use Rattle.machine.specs.declared.Board.{Board}
+use Rattle.machine_record.specs.declared.Board.{Board}
 use Rattle.bus.specs.Place.{placeOf}
 use Rattle.board_step.specs.Acted.{Acted, writeActed, readActed, wordActed, endActed, doneActed}
-use Rattle.events.specs.declared.Din.{Din}
-use Rattle.events.specs.declared.Event.{Event}
-use Rattle.events.specs.declared.Event.the-variants.{WriteByte, ReadByte, ReadWord, ConversionEnd, DinPins, LatchLevel, PortPins, Tick, TransferEnd}
+use Rattle.board_events.specs.declared.Din.{Din}
+use Rattle.board_events.specs.declared.Event.{Event}
+use Rattle.board_events.specs.declared.Event.the-variants.{WriteByte, ReadByte, ReadWord, ConversionEnd, DinPins, LatchLevel, PortPins, Tick, TransferEnd}
 
 -- a transfer ends: "Data and address are read when the transfer ends"
 abbrev pub transferEnded : Board → List ℕ → Board

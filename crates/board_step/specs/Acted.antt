@@ -4,14 +4,13 @@ use Prim.Native.Nat.{ℕ}
 use Rattle.fifo.specs.Queue.{pushedTo}
 use Rattle.converter.specs.Channels.{ended, isLast}
 use Rattle.requests.specs.Requests.{askedAd}
-use Rattle.machine.specs.Parts.{withConverter, withRequests}
-use Rattle.machine.specs.declared.Board.{Board}
-use Rattle.bus.specs.Effects.{Effect, Keep, Take, Store, readEffect, writeEffect}
-use Rattle.bus.specs.Read.{byteAt, afterRead}
-use Rattle.bus.specs.Write.{writtenAt}
+use Rattle.machine_record.specs.Parts.{withConverter, withRequests}
+use Rattle.machine_record.specs.declared.Board.{Board}
+use Rattle.bus.specs.Effects.{Effect, Keep, Take, Store}
+use Rattle.bus.specs.Registers.{writtenAt, writeEffect, byteAt, afterRead, readEffect}
 use Rattle.bus.specs.declared.Place.{Place}
-use Rattle.events.specs.declared.Answer.{Answer}
-use Rattle.events.specs.declared.Answer.the-variants.{Done, Byte, Word}
+use Rattle.board_events.specs.declared.Answer.{Answer}
+use Rattle.board_events.specs.declared.Answer.the-variants.{Done, Byte, Word}
 
 -- the record, its sample memory apart, the answer, and what becomes of the samples
 pub record Acted : Type 0 where

@@ -3,10 +3,10 @@
 use Prim.Native.Nat.{ℕ}
 use mathlib.Core.Path.{_≡_, refl, sym, _∙_}
 use mathlib.Core.List.{List}
-use Rattle.machine.specs.declared.Board.{Board}
+use Rattle.machine_record.specs.declared.Board.{Board}
 use Rattle.board_step.specs.Step.{stepOf, memoryAfter, eepromAfter}
-use Rattle.events.specs.declared.Answer.{Answer}
-use Rattle.events.specs.declared.Event.{Event}
+use Rattle.board_events.specs.declared.Answer.{Answer}
+use Rattle.board_events.specs.declared.Event.{Event}
 
 -- From the record b, the memories m and e and an event: the answer, in the form that `form` gives it, and the record and both memories at exit
 pub record Stepped {X : Type 0} (form : Answer → X) (b : Board) (m e : List ℕ) (event : Event) (answer′ : X) (b′ : Board) (m′ e′ : List ℕ) : Type 0 where
@@ -16,13 +16,13 @@ pub record Stepped {X : Type 0} (form : Answer → X) (b : Board) (m e : List �
   pub eeprom : e′ ≡ eepromAfter b m e event
 
 -- the answer as it is
-abbrev pub itself : Answer → Answer
+abbrev pub itself : {X : Type 0} → X → X
 itself a = a
 
 -- what the step by value gives is such an outcome
-pub stepped : {X : Type 0} (form : Answer → X) (b : Board) (m e : List ℕ) (event : Event)
+pub stepped-by-value : {X : Type 0} (form : Answer → X) (b : Board) (m e : List ℕ) (event : Event)
     → Stepped form b m e event (form (stepOf b m e event .answer)) (stepOf b m e event .board) (memoryAfter b m e event) (eepromAfter b m e event)
-stepped form b m e event = record { answer = refl; board = refl; memory = refl; eeprom = refl }
+stepped-by-value form b m e event = record { answer = refl; board = refl; memory = refl; eeprom = refl }
 
 -- and the only one: two outcomes that the promise permits are equal
 pub determined : {X : Type 0} {form : Answer → X} {b : Board} {m e : List ℕ} {event : Event} {x x′ : X} {b₁ b₂ : Board} {m₁ m₂ e₁ e₂ : List ℕ}

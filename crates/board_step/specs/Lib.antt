@@ -1,6 +1,7 @@
 pub mod Acted
 pub mod Act
 pub mod Step
+pub mod States
 pub mod Lent
 pub mod Sampled
 pub mod Passed

@@ -10,15 +10,15 @@ use lib.Dec.{ltb}
 use Rattle.base.specs.Checks.{_refuses_, refusal}
 use Rattle.base.specs.Laws.{not-not}
 use Rattle.base.specs.Unrefused.{passes}
-use Rattle.machine.specs.declared.Board.{Board}
-use Rattle.board_refusal.specs.Working.{workingBoard, WorkingBoard, board-of}
+use Rattle.machine_record.specs.declared.Board.{Board}
+use Rattle.board_refusal.specs.Working.{isWorkingBoard, WorkingBoard, board-of}
 use Rattle.board_stores.specs.Stores.{wrongLengths}
 use Rattle.board_stores.specs.Lengths.{right-lengths}
 use Rattle.board_refusal.specs.Refusals.{eventChecks, checks}
 use Rattle.board_step.specs.Act.{dinLevels}
-use Rattle.events.specs.declared.Din.{Din}
-use Rattle.events.specs.declared.Event.{Event}
-use Rattle.events.specs.declared.Event.the-variants.{DinPins}
+use Rattle.board_events.specs.declared.Din.{Din}
+use Rattle.board_events.specs.declared.Event.{Event}
+use Rattle.board_events.specs.declared.Event.the-variants.{DinPins}
 
 -- the board works, the EEPROM has its length, and no check of the event refuses
 pub record Passed (b : Board) (m e : List ℕ) (ev : Event) : Type 0 where
@@ -26,11 +26,11 @@ pub record Passed (b : Board) (m e : List ℕ) (ev : Event) : Type 0 where
   pub long : length e ≡ 128
   pub event : refusal (eventChecks b ev) ≡ 0
 
-pub passed : (b : Board) (m e : List ℕ) (ev : Event) → refusal (checks b m e ev) ≡ 0 → Passed b m e ev
+pub all-passed : (b : Board) (m e : List ℕ) (ev : Event) → refusal (checks b m e ev) ≡ 0 → Passed b m e ev
 unfolding checks
-passed b m e ev h =
-    let p = passes (wrongLengths m e) 2 (not (workingBoard b m) refuses 1 ∷ eventChecks b ev) (omega arith) h in
-    let q = passes (not (workingBoard b m)) 1 (eventChecks b ev) (omega arith) (p .1) in
+all-passed b m e ev h =
+    let p = passes (wrongLengths m e) 2 (not (isWorkingBoard b m) refuses 1 ∷ eventChecks b ev) (omega arith) h in
+    let q = passes (not (isWorkingBoard b m)) 1 (eventChecks b ev) (omega arith) (p .1) in
     record { works = board-of b m (not-not _ (q .0)); long = right-lengths m e (p .0) .1; event = q .1 }
 
 -- DIN levels that are not refused are within their width

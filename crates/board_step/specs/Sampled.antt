@@ -5,13 +5,13 @@ use Prim.Native.Nat.{ℕ}
 use Rattle.fifo.specs.Queue.{queue, layout, WorkingFifo}
 use Rattle.fifo.specs.Queue.Laws.{queue-push, push-works, queue-pop, pop-works, queue-clear, clear-works}
 use Rattle.fifo.specs.declared.Fifo.{Fifo}
-use Rattle.machine.specs.declared.Board.{Board}
+use Rattle.machine_record.specs.declared.Board.{Board}
 use Rattle.bus.specs.Place.{placeOf}
-use Rattle.bus.specs.Effects.{Effect, Keep, Take, Store, Empty, readEffect}
-use Rattle.bus.specs.Read.{afterRead}
+use Rattle.bus.specs.Effects.{Effect, Keep, Take, Store, Empty}
+use Rattle.bus.specs.Registers.{afterRead, readEffect}
 use Rattle.board_step.specs.Act.{acted}
 use Rattle.board_step.specs.Step.{samplesAfter, fifoAfter, ran}
-use Rattle.events.specs.declared.Event.the-variants.{ReadByte}
+use Rattle.board_events.specs.declared.Event.the-variants.{ReadByte}
 
 module _ (f : Fifo) (m : List ℕ) (w : WorkingFifo f m) where
   pub effect-works : (x : Effect) → WorkingFifo (fifoAfter x f) (layout (fifoAfter x f) (samplesAfter x (queue f m)))

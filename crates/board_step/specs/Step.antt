@@ -9,16 +9,16 @@ use Rattle.base.specs.Checks.{refusal}
 use Rattle.fifo.specs.Samples.{oldestOf, pushed, popped}
 use Rattle.fifo.specs.Queue.{queue, layout, emptyFifo, pushedTo, poppedFrom}
 use Rattle.fifo.specs.declared.Fifo.{Fifo}
-use Rattle.machine.specs.Parts.{withFifo}
-use Rattle.machine.specs.declared.Board.{Board}
+use Rattle.machine_record.specs.Parts.{withFifo}
+use Rattle.machine_record.specs.declared.Board.{Board}
 use Rattle.bus.specs.Effects.{Effect, Keep, Take, Store, Empty}
 use Rattle.board_step.specs.Act.{acted, eepromActed}
 use Rattle.board_refusal.specs.Refusals.{checks}
 use Rattle.board_step.specs.Acted.{Acted}
-use Rattle.events.specs.declared.Answer.{Answer}
-use Rattle.events.specs.declared.Answer.the-variants.{Refused}
+use Rattle.board_events.specs.declared.Answer.{Answer}
+use Rattle.board_events.specs.declared.Answer.the-variants.{Refused}
 use Rattle.board_step.specs.declared.Outcome.{Outcome}
-use Rattle.events.specs.declared.Event.{Event}
+use Rattle.board_events.specs.declared.Event.{Event}
 
 -- ---- what an effect makes of the samples held, oldest first, and of the memory's record
 abbrev pub samplesAfter : Effect → List ℕ → List ℕ

@@ -2,18 +2,18 @@
 use mathlib.Core.Path.{_≡_, refl, subst}
 use mathlib.Core.List.{List}
 use Prim.Native.Nat.{ℕ}
-use Rattle.machine.specs.declared.Board.{Board}
+use Rattle.machine_record.specs.declared.Board.{Board}
 use Rattle.machine_clock.specs.Clock.{gates}
 use Rattle.machine_tick.specs.InPlace.{clocksTicked, broughtBy, tick-of}
 use Rattle.machine_tick.specs.Kept.{ticked-works}
-use Rattle.machine.specs.Working.{WorkingMachine}
+use Rattle.machine_record.specs.Working.{WorkingMachine}
 use Rattle.board_refusal.specs.Refusals.{eventChecks}
 use Rattle.board_refusal.specs.Working.{WorkingBoard, board-to}
 use Rattle.board_step.specs.Act.{acted, eepromActed}
 use Rattle.board_step.specs.Step.{ran}
 use Rattle.board_step.specs.Ways.{Promised, Opened, working, laid, done}
-use Rattle.events.specs.declared.Answer.the-variants.{Done}
-use Rattle.events.specs.declared.Event.the-variants.{Tick}
+use Rattle.board_events.specs.declared.Answer.the-variants.{Done}
+use Rattle.board_events.specs.declared.Event.the-variants.{Tick}
 
 -- the record, its parts changed in place
 abbrev pub tickedBoard : Board → Board

@@ -12,15 +12,15 @@ use Rattle.base.specs.Checks.{_refuses_, refusal}
 use Rattle.base.specs.Laws.{not-not, not-true}
 use Rattle.base.specs.Unrefused.{passes}
 use Rattle.fifo.specs.Queue.{queue, layout}
-use Rattle.machine.specs.declared.Board.{Board}
+use Rattle.machine_record.specs.declared.Board.{Board}
 use Rattle.board_stores.specs.Stores.{wrongLengths}
 use Rattle.board_stores.specs.Lengths.{right-lengths}
-use Rattle.board_refusal.specs.Working.{workingBoard, WorkingBoard, board-of}
+use Rattle.board_refusal.specs.Working.{isWorkingBoard, WorkingBoard, board-of}
 use Rattle.board_refusal.specs.Refusals.{eventChecks, checks}
 use Rattle.board_step.specs.Step.{Did, ranFrom, stepOf, memoryAfter, eepromAfter}
 use Rattle.board_step.specs.declared.Outcome.{Outcome}
-use Rattle.events.specs.declared.Answer.the-variants.{Refused}
-use Rattle.events.specs.declared.Event.{Event}
+use Rattle.board_events.specs.declared.Answer.the-variants.{Refused}
+use Rattle.board_events.specs.declared.Event.{Event}
 
 -- what the contract of each kind of event says
 abbrev pub Promised : Board → List ℕ → List ℕ → Event → Outcome → List ℕ → List ℕ → Type 0
@@ -29,20 +29,20 @@ Promised b m e ev r m′ e′ = (r ≡ stepOf b m e ev) × ((m′ ≡ memoryAfte
 -- both checks before the event's own were passed
 pub record Opened (b : Board) (m e : List ℕ) : Type 0 where
   pub long : wrongLengths m e ≡ false
-  pub working : workingBoard b m ≡ true
+  pub working : isWorkingBoard b m ≡ true
 
 -- from the two tests that the code makes
-pub opened : {b : Board} {m e : List ℕ} {w : Bool} → wrongLengths m e ≡ false → w ≡ workingBoard b m → not w ≡ false → Opened b m e
+pub opened : {b : Board} {m e : List ℕ} {w : Bool} → wrongLengths m e ≡ false → w ≡ isWorkingBoard b m → not w ≡ false → Opened b m e
 opened {w = w} l k h = record { long = l; working = sym k ∙ not-not w h }
 
 -- from a step that is not refused
 pub opens : (b : Board) (m e : List ℕ) (ev : Event) → refusal (checks b m e ev) ≡ 0 → Opened b m e
 unfolding checks
 opens b m e ev h =
-    let p = passes (wrongLengths m e) 2 (not (workingBoard b m) refuses 1 ∷ eventChecks b ev) (omega arith) h in
-    record { long = p .0; working = not-not _ (passes (not (workingBoard b m)) 1 (eventChecks b ev) (omega arith) (p .1) .0) }
+    let p = passes (wrongLengths m e) 2 (not (isWorkingBoard b m) refuses 1 ∷ eventChecks b ev) (omega arith) h in
+    record { long = p .0; working = not-not _ (passes (not (isWorkingBoard b m)) 1 (eventChecks b ev) (omega arith) (p .1) .0) }
 
-pub works : {b : Board} {m : List ℕ} {w : Bool} → w ≡ workingBoard b m → not w ≡ false → WorkingBoard b m
+pub works : {b : Board} {m : List ℕ} {w : Bool} → w ≡ isWorkingBoard b m → not w ≡ false → WorkingBoard b m
 works {b} {m} {w = w} k h = board-of b m (sym k ∙ not-not w h)
 
 pub working : {b : Board} {m e : List ℕ} → Opened b m e → WorkingBoard b m
@@ -62,10 +62,10 @@ module _ (b : Board) (m e : List ℕ) (ev : Event) where
   wrong h = (rw h, (rw h, rw h))
 
   -- refused by 1
-  pub broken : {w : Bool} → wrongLengths m e ≡ false → w ≡ workingBoard b m → not w ≡ true
+  pub broken : {w : Bool} → wrongLengths m e ≡ false → w ≡ isWorkingBoard b m → not w ≡ true
       → Promised b m e ev (record { board = b; answer = Refused 1 }) m e
   unfolding stepOf memoryAfter eepromAfter checks
-  broken {w} l k h = let f : workingBoard b m ≡ false = sym k ∙ not-true w h in (rw (l, f), (rw (l, f), rw (l, f)))
+  broken {w} l k h = let f : isWorkingBoard b m ≡ false = sym k ∙ not-true w h in (rw (l, f), (rw (l, f), rw (l, f)))
 
   -- refused by a check of the event's own
   pub refused : {n : ℕ} → Opened b m e → refusal (eventChecks b ev) ≡ n → eqb n 0 ≡ false

@@ -8,7 +8,7 @@ use lib.ListN.{length, drop, replicate, drop-of-length-le}
 use Rattle.fifo.specs.Queue.{layout, emptyFifo}
 use Rattle.board_stores.specs.Stores.{wrongLengths, storesAnswer, freshMemory, freshEeprom}
 use Rattle.board_stores.specs.Lengths.{right-lengths}
-use Rattle.events.specs.declared.Answer.the-variants.{Done, Refused}
+use Rattle.board_events.specs.declared.Answer.the-variants.{Done, Refused}
 
 -- ---- the fresh EEPROM
 pub filled : (e : List ℕ) (i : ℕ) → i ≤ length e → length e ≤ i → replicate i 0 ++ drop i e ≡ replicate (length e) 0

@@ -6,8 +6,8 @@ use lib.ListN.{length, replicate}
 use lib.Dec.{eqb}
 use Rattle.base.specs.Choice.{if_then_else_}
 use Rattle.fifo.specs.Queue.{layout, emptyFifo}
-use Rattle.events.specs.declared.Answer.{Answer}
-use Rattle.events.specs.declared.Answer.the-variants.{Done, Refused}
+use Rattle.board_events.specs.declared.Answer.{Answer}
+use Rattle.board_events.specs.declared.Answer.the-variants.{Done, Refused}
 
 -- refusal 2: "sample memory not 512 long or EEPROM not 128"
 abbrev pub wrongLengths : List ℕ → List ℕ → Bool

@@ -1,5 +1,5 @@
 // The two lent memories when they are fresh: specs/Stores.antt.
-use events::Answer;
+use board_events::Answer;
 ghost use mathlib.Core.Path.{_≡_};
 ghost use lib.ListN.{length, replicate};
 ghost use Rattle.board_stores.specs.Stores.{freshMemory, freshEeprom, storesAnswer};

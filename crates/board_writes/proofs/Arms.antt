@@ -9,9 +9,9 @@ use Rattle.base.specs.Choice.{if_then_else_}
 use Rattle.base.specs.Checks.{refusal}
 use Rattle.base.specs.Fields.{bit}
 use Rattle.bus.specs.Place.{placeOf}
-use Rattle.bus.specs.Effects.{Keep, Empty, writeEffect}
-use Rattle.bus.specs.Refusals.{writeChecks}
-use Rattle.bus.specs.Write.{fifoWritten, writtenAt}
+use Rattle.bus.specs.Effects.{Keep, Empty}
+use Rattle.bus.specs.Bytes.{fifoWritten}
+use Rattle.bus.specs.Registers.{writeChecks, writtenAt, writeEffect}
 use Rattle.bus.specs.declared.Place.{Place}
 use Rattle.fifo.specs.Queue.{Leaves, emptyFifo}
 use Rattle.fifo.specs.declared.Fifo.{Fifo}
@@ -20,30 +20,31 @@ use Rattle.converter.specs.declared.channels.Converter.{Converter}
 use Rattle.requests.specs.Registers.{writtenFifoen}
 use Rattle.requests.specs.Requests.{cleared}
 use Rattle.requests.specs.declared.Requests.{Requests}
-use Rattle.calibration.specs.Registers.{keyForgotten}
-use Rattle.calibration.specs.declared.Calibration.{Calibration}
+use Rattle.calibration_registers.specs.Registers.{keyForgotten}
+use Rattle.calibration_registers.specs.declared.Calibration.{Calibration}
 use Rattle.timer.specs.Timer.{gatesMove, gatesMoved}
 use Rattle.timer.specs.Still.{gates-still}
 use Rattle.timer.specs.Working.{WorkingTimer}
 use Rattle.timer.specs.declared.Gates.{Gates}
-use Rattle.timer_bus.specs.declared.Written.{Written}
-use Rattle.timer_bus.specs.declared.Written.the-variants as written-as
-use Rattle.machine.specs.Parts.{withFifo, withConverter, withRequests, withRegisters, withCalibration}
-use Rattle.machine.specs.declared.Board.{Board}
-use Rattle.machine_clock.specs.Clock.{gates, gatesAt, withCounting, countingWritten, turned, turnedBy}
+use Rattle.timer.specs.declared.accesses.Written.{Written}
+use Rattle.timer.specs.declared.accesses.Written.the-variants as written-as
+use Rattle.machine_record.specs.Parts.{withFifo, withConverter, withRequests, withRegisters, withCalibration}
+use Rattle.machine_record.specs.declared.Board.{Board}
+use Rattle.machine_clock.specs.Clock.{gates, gatesAt, withCounting, countingWritten, timerMoved, timerMovedBy}
 use Rattle.machine_reset.specs.Reset.{isReset, boardReset, requestsCleared, withPage, pageSet, miscWritten}
 use Rattle.board_refusal.specs.Refusals.{eventChecks}
 use Rattle.board_step.specs.Act.{acted, eepromActed}
 use Rattle.board_step.specs.Step.{ran}
 use Rattle.board_step.specs.Ways.{Promised, Opened, laid, refused, done, chosen}
-use Rattle.events.specs.declared.Answer.the-variants.{Refused, Done}
-use Rattle.events.specs.declared.Event.the-variants.{WriteByte}
+use Rattle.board_events.specs.declared.Answer.the-variants.{Refused, Done}
+use Rattle.board_events.specs.declared.Event.the-variants.{WriteByte}
 
 module _ (b : Board) (m e : List ℕ) (n v : ℕ) {p k : Place} (o : Opened b m e) (at : p ≡ placeOf (b .registers .page) n) (told : p ≡ k) where
   place : placeOf (b .registers .page) n ≡ k
   place = sym at ∙ told
 
-  pub write-refused : {i : ℕ} → refusal (writeChecks b k v) ≡ i → eqb i 0 ≡ false → Promised b m e (WriteByte n v) (record { board = b; answer = Refused i }) m e
+  pub write-refused : {i : ℕ} → refusal (writeChecks b k v) ≡ i → eqb i 0 ≡ false
+      → Promised b m e (WriteByte n v) (record { board = b; answer = Refused i }) m e
   unfolding eventChecks
   write-refused r z = refused b m e (WriteByte n v) o (rw place r) z
 
@@ -65,13 +66,13 @@ module _ (b : Board) (m e : List ℕ) (n v : ℕ) {p k : Place} (o : Opened b m 
       (record { outcome = rw (place, empty, ← a, l .fifo); memory = rw (place, empty) (l .laid); eeprom = refl })
 
 -- ---- a timer that moves leaves the sample memory's record
-turned-fifo : (b : Board) (w : Written) → turnedBy b w .fifo ≡ b .fifo
-unfolding turned
-turned-fifo b (written-as.Accepted t) = refl
-turned-fifo b (written-as.Refused n) = refl
+timer-moved-fifo : (b : Board) (w : Written) → timerMovedBy b w .fifo ≡ b .fifo
+unfolding timerMoved
+timer-moved-fifo b (written-as.Accepted t) = refl
+timer-moved-fifo b (written-as.Refused n) = refl
 
-pub turned-kept : (b : Board) (w : Written) {d : Board} → d ≡ turnedBy b w → d .fifo ≡ b .fifo
-turned-kept b w h = ap (λ (z : Board). z .fifo) h ∙ turned-fifo b w
+pub timer-moved-kept : (b : Board) (w : Written) {d : Board} → d ≡ timerMovedBy b w → d .fifo ≡ b .fifo
+timer-moved-kept b w h = ap (λ (z : Board). z .fifo) h ∙ timer-moved-fifo b w
 
 -- ---- 7, its two parts
 pub fifo-put : (b : Board) (v : ℕ) {q : Requests} {k : Converter} → q ≡ writtenFifoen (b .requests) v → k ≡ writtenScanen (b .converter) v
@@ -87,7 +88,7 @@ gates-stay b v w i j k h =
 
 -- ---- 8, by its three cases
 module _ (b : Board) (v : ℕ) {t : Bool} (k : t ≡ isReset v) where
-  pub misc-reset : {d : Board} → t ≡ true → d ≡ boardReset b (bit v 32) → d ≡ miscWritten b v
+  pub misc-reset : {d : Board} → t ≡ true → d ≡ boardReset b (bit v 5) → d ≡ miscWritten b v
   unfolding miscWritten
   misc-reset h d = d ∙ sym (chosen _ _ k h)
 

@@ -1,12 +1,12 @@
 // A byte written by the guest: the checks in their order; then the place is found once, and there the write is refused, or does what a write of that place
-// does (specs/Refusals.antt, specs/Write.antt and specs/Effects.antt of bus). `c` is the record as it becomes.
+// does (specs/Registers.antt of bus). `c` is the record as it becomes.
+use board_events::Answer;
 use board_step::Outcome;
 use bus::Place;
-use events::Answer;
 use machine::Board;
 ghost use mathlib.Core.Path.{_≡_};
 ghost use Rattle.board_step.specs.Step.{stepOf, memoryAfter, eepromAfter};
-ghost use Rattle.events.specs.declared.Event.the-variants.{WriteByte};
+ghost use Rattle.board_events.specs.declared.Event.the-variants.{WriteByte};
 
 // The guest writes a byte at an offset.
 pub fn write_byte(
@@ -28,24 +28,24 @@ pub fn write_byte(
     } else {
         let p = bus::map::find(c.registers.page, offset);
         match p {
-            Place::Start => {
+            Place::Base0 => {
                 c.converter = converter::channels::software_trigger(c.converter);
                 Answer::Done
             }
-            Place::Digital => {
+            Place::Base1 => {
                 let dout = value % 8;
                 c.registers.dout = dout;
                 Answer::Done
             }
-            Place::LowChannel => {
+            Place::Base2 => {
                 c.converter = converter::channels::write_low(c.converter, value);
                 Answer::Done
             }
-            Place::HighChannel => {
+            Place::Base3 => {
                 c.converter = converter::channels::write_high(c.converter, value);
                 Answer::Done
             }
-            Place::DacLeast => {
+            Place::Base4 => {
                 if outputs::is_busy(c.outputs) {
                     Answer::Refused(6)
                 } else {
@@ -53,7 +53,7 @@ pub fn write_byte(
                     Answer::Done
                 }
             }
-            Place::DacMost => {
+            Place::Base5 => {
                 if outputs::is_busy(c.outputs) {
                     Answer::Refused(6)
                 } else {
@@ -61,11 +61,11 @@ pub fn write_byte(
                     Answer::Done
                 }
             }
-            Place::Depth => {
+            Place::Base6 => {
                 c.requests = requests::write_depth(c.requests, value);
                 Answer::Done
             }
-            Place::FifoControl => {
+            Place::Base7 => {
                 c.requests = requests::write_fifoen(c.requests, value);
                 c.converter = converter::channels::write_scanen(c.converter, value);
                 if requests::is_fiforst(value) {
@@ -74,9 +74,9 @@ pub fn write_byte(
                 }
                 Answer::Done
             }
-            Place::Miscellaneous => {
-                if machine_reset::is_reset(value) {
-                    c = machine_reset::reset_board(c, value / 32 % 2 == 1);
+            Place::Base8 => {
+                if machine::is_reset(value) {
+                    c = machine::reset_board(c, value / 32 % 2 == 1);
                     let f = fifo::clear(memory);
                     c.fifo = f;
                 } else if value / 8 % 2 == 1 {
@@ -88,46 +88,46 @@ pub fn write_byte(
                 }
                 Answer::Done
             }
-            Place::Operation => {
+            Place::Base9 => {
                 c.requests = requests::write_enables(c.requests, value);
                 c.converter = converter::channels::write_clken(c.converter, value);
                 Answer::Done
             }
-            Place::CounterControl => {
-                let was = machine_clock::gates_at(c.registers.counting, c.pins.din);
-                let is = machine_clock::gates_at(value, c.pins.din);
+            Place::Base10 => {
+                let was = machine::gates_at(c.registers.counting, c.pins.din);
+                let is = machine::gates_at(value, c.pins.din);
                 c.registers.counting = value;
                 if timer::do_gates_move(was, is) {
                     let t = timer::move_gates(c.clocks.timer, was, is);
-                    c.clocks = machine_clock::put_timer(c.clocks, t);
+                    c.clocks = machine::put_timer(c.clocks, t);
                 }
                 Answer::Done
             }
-            Place::Analog => {
+            Place::Base11 => {
                 let range = value % 16;
                 c.registers.range = range;
                 Answer::Done
             }
             Place::Count(s) => {
-                if timer_bus::refuses_count(c.clocks.timer, s, value) {
+                if timer::accesses::refuses_count(c.clocks.timer, s, value) {
                     Answer::Refused(7)
                 } else {
-                    let g = machine_clock::gates_at(c.registers.counting, c.pins.din);
-                    c = machine_clock::turn_by(
+                    let g = machine::gates_at(c.registers.counting, c.pins.din);
+                    c = machine::move_timer_by(
                         c,
-                        timer_bus::write_count(c.clocks.timer, s, value, g),
+                        timer::accesses::write_count(c.clocks.timer, s, value, g),
                     );
                     Answer::Done
                 }
             }
             Place::ControlWord => {
-                if timer_bus::refuses_control(value) {
+                if timer::accesses::refuses_control(value) {
                     Answer::Refused(7)
                 } else {
-                    let g = machine_clock::gates_at(c.registers.counting, c.pins.din);
-                    c = machine_clock::turn_by(
+                    let g = machine::gates_at(c.registers.counting, c.pins.din);
+                    c = machine::move_timer_by(
                         c,
-                        timer_bus::write_control(c.clocks.timer, value, g),
+                        timer::accesses::write_control(c.clocks.timer, value, g),
                     );
                     Answer::Done
                 }
@@ -162,7 +162,7 @@ pub fn write_byte(
                     Answer::Done
                 }
             }
-            Place::CalCommand => {
+            Place::CalBase14 => {
                 let number = calibration::control_refusal(c.calibration, value);
                 if number != 0 {
                     Answer::Refused(number)
@@ -171,7 +171,7 @@ pub fn write_byte(
                     Answer::Done
                 }
             }
-            Place::CalKey => {
+            Place::CalBase15 => {
                 c.calibration = calibration::write_key(c.calibration, value);
                 Answer::Done
             }

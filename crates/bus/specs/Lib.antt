@@ -1,6 +1,6 @@
 pub mod Place
 pub mod Effects
-pub mod Refusals
-pub mod Read
-pub mod Write
+pub mod Bytes
+pub mod Rows
+pub mod Registers
 pub mod Kept

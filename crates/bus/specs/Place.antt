@@ -6,27 +6,25 @@ use Rattle.base.specs.Choice.{if_then_else_}
 use Rattle.ports.specs.declared.Port.the-variants.{PortA, PortB, PortC}
 use Rattle.timer.specs.declared.Select.the-variants.{Counter0, Counter1, Counter2}
 use Rattle.bus.specs.declared.Place.{Place}
-use Rattle.bus.specs.declared.Place.the-variants.{Start, Digital, LowChannel, HighChannel, DacLeast, DacMost, Depth, FifoControl}
-use Rattle.bus.specs.declared.Place.the-variants.{Miscellaneous, Operation, CounterControl, Analog, Count, ControlWord, PortData, PortControl}
-use Rattle.bus.specs.declared.Place.the-variants.{Reserved, Auxiliary, CalData, CalAddress, CalCommand, CalKey, Outside}
+use Rattle.bus.specs.declared.Place.the-variants.{Base0, Base1, Base2, Base3, Base4, Base5, Base6, Base7}
+use Rattle.bus.specs.declared.Place.the-variants.{Base8, Base9, Base10, Base11, Count, ControlWord, PortData, PortControl}
+use Rattle.bus.specs.declared.Place.the-variants.{Reserved, Auxiliary, CalData, CalAddress, CalBase14, CalBase15, Outside}
 
--- 0 to 11. Write / read: 0 start A/D conversion / A/D LSB; 1 auxiliary digital output / A/D MSB; 2, 3 A/D low and high channel; 4 D/A LSB /
--- auxiliary digital input; 5 D/A MSB and channel / update D/A; 6 FIFO depth; 7 FIFO control / status; 8 miscellaneous control / status;
--- 9 operation control / status; 10 counter/timer control; 11 analog configuration
+-- 0 to 11, the same on every page
 abbrev pub fixedPlace : ℕ → Place
 fixedPlace n =
-    if eqb n 0 then Start
-    else if eqb n 1 then Digital
-    else if eqb n 2 then LowChannel
-    else if eqb n 3 then HighChannel
-    else if eqb n 4 then DacLeast
-    else if eqb n 5 then DacMost
-    else if eqb n 6 then Depth
-    else if eqb n 7 then FifoControl
-    else if eqb n 8 then Miscellaneous
-    else if eqb n 9 then Operation
-    else if eqb n 10 then CounterControl
-    else Analog
+    if eqb n 0 then Base0
+    else if eqb n 1 then Base1
+    else if eqb n 2 then Base2
+    else if eqb n 3 then Base3
+    else if eqb n 4 then Base4
+    else if eqb n 5 then Base5
+    else if eqb n 6 then Base6
+    else if eqb n 7 then Base7
+    else if eqb n 8 then Base8
+    else if eqb n 9 then Base9
+    else if eqb n 10 then Base10
+    else Base11
 
 -- page 0, 8.1: "Base + 12 maps into register 0 of the 82C54", and so on
 abbrev pub timerPlace : ℕ → Place
@@ -53,8 +51,8 @@ abbrev pub calibrationPlace : ℕ → Place
 calibrationPlace n =
     if eqb n 12 then CalData
     else if eqb n 13 then CalAddress
-    else if eqb n 14 then CalCommand
-    else CalKey
+    else if eqb n 14 then CalBase14
+    else CalBase15
 
 -- 12 to 15, by the page of Base+8
 abbrev pub pagedPlace : ℕ → ℕ → Place

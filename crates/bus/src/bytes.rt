@@ -1,9 +1,9 @@
-// The bytes that are read of several parts of the record, at 4 and 8: specs/Read.antt.
+// The bytes that are read of several parts of the record, at 4 and 8: specs/Bytes.antt.
 use calibration::Calibration;
 use converter::channels::Converter;
 use outputs::Outputs;
 ghost use mathlib.Core.Path.{_≡_};
-ghost use Rattle.bus.specs.Read.{inputBits, adBits};
+ghost use Rattle.bus.specs.Bytes.{inputBits, adBits};
 
 // 4: DACBUSY, CALBUSY and DIN3-0.
 pub fn input_bits(o: Outputs, k: Calibration, din: u8) -> u8

@@ -9,18 +9,18 @@ fn fixed_place(n: u32) -> Place
     ensures { λ r. ⌜ r ≡ fixedPlace n ⌝ }
 {
     match n {
-        0 => Place::Start,
-        1 => Place::Digital,
-        2 => Place::LowChannel,
-        3 => Place::HighChannel,
-        4 => Place::DacLeast,
-        5 => Place::DacMost,
-        6 => Place::Depth,
-        7 => Place::FifoControl,
-        8 => Place::Miscellaneous,
-        9 => Place::Operation,
-        10 => Place::CounterControl,
-        _ => Place::Analog,
+        0 => Place::Base0,
+        1 => Place::Base1,
+        2 => Place::Base2,
+        3 => Place::Base3,
+        4 => Place::Base4,
+        5 => Place::Base5,
+        6 => Place::Base6,
+        7 => Place::Base7,
+        8 => Place::Base8,
+        9 => Place::Base9,
+        10 => Place::Base10,
+        _ => Place::Base11,
     }
 }
 
@@ -62,8 +62,8 @@ fn calibration_place(n: u32) -> Place
     match n {
         12 => Place::CalData,
         13 => Place::CalAddress,
-        14 => Place::CalCommand,
-        _ => Place::CalKey,
+        14 => Place::CalBase14,
+        _ => Place::CalBase15,
     }
 }
 

@@ -3,10 +3,10 @@
 use mathlib.Core.List.{List}
 use Prim.Native.Nat.{ℕ, _%_}
 use lib.ListN.{getD, set, take}
-use Rattle.transfers.specs.declared.Transfer.{Transfer}
-use Rattle.transfers.specs.declared.Transfer.the-variants.{NoTransfer, EepromRead, EepromWrite, RunCal, TrimDac}
-use Rattle.calibration.specs.declared.Calibration.{Calibration}
-use Rattle.transfers.specs.Transfers.{transferOf}
+use Rattle.calibration_transfers.specs.declared.Transfer.{Transfer}
+use Rattle.calibration_transfers.specs.declared.Transfer.the-variants.{NoTransfer, EepromRead, EepromWrite, RunCal, TrimDac}
+use Rattle.calibration_registers.specs.declared.Calibration.{Calibration}
+use Rattle.calibration_transfers.specs.Transfers.{transferOf}
 
 -- none runs any more; register 12 and the TrimDAC are as given
 abbrev pub stopped : Calibration → ℕ → List ℕ → Calibration

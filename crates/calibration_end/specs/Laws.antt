@@ -4,13 +4,13 @@ use mathlib.Core.List.{List}
 use Prim.Native.Nat.{ℕ, _%_}
 use native.Mathlib.Omega.{arith}
 use lib.ListN.{length, getD, set, take, length-set, length-take}
-use Rattle.transfers.specs.declared.Transfer.{Transfer}
-use Rattle.transfers.specs.declared.Transfer.the-variants.{NoTransfer, EepromRead, EepromWrite, RunCal, TrimDac}
-use Rattle.calibration.specs.declared.Calibration.{Calibration}
-use Rattle.transfers.specs.Transfers.{transferOf}
+use Rattle.calibration_transfers.specs.declared.Transfer.{Transfer}
+use Rattle.calibration_transfers.specs.declared.Transfer.the-variants.{NoTransfer, EepromRead, EepromWrite, RunCal, TrimDac}
+use Rattle.calibration_registers.specs.declared.Calibration.{Calibration}
+use Rattle.calibration_transfers.specs.Transfers.{transferOf}
 use Rattle.calibration_end.specs.Ends.{endedBy, eepromEndedBy, ended, eepromEnded}
-use Rattle.calibration.specs.Registers.{controlWritten}
-use Rattle.calibration.specs.Working.{WorkingCalibration}
+use Rattle.calibration_registers.specs.Registers.{commandWritten}
+use Rattle.calibration_registers.specs.Working.{WorkingCalibration}
 
 pub ended-by-works : (t : Transfer) (c : Calibration) (eeprom : List ℕ) → WorkingCalibration c → WorkingCalibration (endedBy t c eeprom)
 ended-by-works NoTransfer c eeprom w = w
@@ -48,21 +48,21 @@ trim-length c eeprom h k = go (transferOf (c .transfer))
 
 -- ---- from a command to its end
 -- an EEPROM write: the byte goes to the address
-pub write-ends : (c : Calibration) (eeprom : List ℕ) → eepromEnded (controlWritten c 0x80) eeprom ≡ set eeprom (c .address) (c .value)
+pub write-ends : (c : Calibration) (eeprom : List ℕ) → eepromEnded (commandWritten c 0x80) eeprom ≡ set eeprom (c .address) (c .value)
 unfolding eepromEnded
 write-ends c eeprom = refl
 
 -- an EEPROM read: register 12 shows the byte at the address
-pub read-ends : (c : Calibration) (eeprom : List ℕ) → (ended (controlWritten c 0xC0) eeprom) .value ≡ getD eeprom (c .address) 0
+pub read-ends : (c : Calibration) (eeprom : List ℕ) → (ended (commandWritten c 0xC0) eeprom) .value ≡ getD eeprom (c .address) 0
 unfolding ended
 read-ends c eeprom = refl
 
 -- RUNCAL: the TrimDAC is EEPROM 0-7
-pub runcal-ends : (c : Calibration) (eeprom : List ℕ) → (ended (controlWritten c 0x20) eeprom) .trim ≡ take 8 eeprom
+pub runcal-ends : (c : Calibration) (eeprom : List ℕ) → (ended (commandWritten c 0x20) eeprom) .trim ≡ take 8 eeprom
 unfolding ended
 runcal-ends c eeprom = refl
 
 -- TDACEN: the TrimDAC takes the byte at the three low bits of the address
-pub trimdac-ends : (c : Calibration) (eeprom : List ℕ) → (ended (controlWritten c 0x08) eeprom) .trim ≡ set (c .trim) (c .address % 8) (c .value)
+pub trimdac-ends : (c : Calibration) (eeprom : List ℕ) → (ended (commandWritten c 0x08) eeprom) .trim ≡ set (c .trim) (c .address % 8) (c .value)
 unfolding ended
 trimdac-ends c eeprom = refl

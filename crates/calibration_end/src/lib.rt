@@ -1,11 +1,11 @@
 // What a transfer to or from EEPROM and TrimDAC has done when it ends (manual, chapter 15). The EEPROM, 128 bytes, is lent. Each
 // function's contract is a definition of specs/Ends.antt.
-use calibration::Calibration;
-use transfers::Transfer;
+use calibration_registers::Calibration;
+use calibration_transfers::Transfer;
 ghost use mathlib.Core.Path.{_≡_};
 ghost use lib.ListN.{length, set, take};
 ghost use Prim.Native.Nat.{_%_};
-ghost use Rattle.calibration.specs.Working.{WorkingCalibration};
+ghost use Rattle.calibration_registers.specs.Working.{WorkingCalibration};
 ghost use Rattle.calibration_end.specs.Ends.{stopped, endedBy, eepromEndedBy, ended, eepromEnded};
 
 // No transfer runs any more; register 12 and the TrimDAC are as given.
@@ -85,7 +85,7 @@ pub fn end_transfer(c: Calibration, eeprom: &mut [u8]) -> Calibration
     ensures { λ r. ⌜ r ≡ ended c (now (eeprom .entry)) ⌝ }
     ensures { λ r. ⌜ now (eeprom .exit) ≡ eepromEnded c (now (eeprom .entry)) ⌝ }
 {
-    let t = transfers::transfer_of(c.transfer);
+    let t = calibration_transfers::transfer_of(c.transfer);
     let d = end_by(t, c, eeprom);
     store_by(t, c, eeprom);
     d

@@ -2,7 +2,8 @@
 use mathlib.Core.Path.{_≡_, refl, sym, _∙_}
 use mathlib.Core.Bool.{Bool, true, false}
 use Prim.Native.Nat.{ℕ, suc, _+_, _-_, _*_, _≤_, _<_}
-use native.Mathlib.Nat.{mul-left-comm, suc-mul, div-add-mod', mod-lt, le-div-iff-mul-le, div-lt-iff-lt-mul, le-antisymm, le-of-suc-le-suc, mul-le-mul-right, le-refl}
+use native.Mathlib.Nat.{mul-left-comm, suc-mul, div-add-mod', mod-lt, le-div-iff-mul-le, div-lt-iff-lt-mul, le-antisymm, le-of-suc-le-suc, mul-le-mul-right}
+use native.Mathlib.Nat.{le-refl}
 use native.Mathlib.Omega.{arith}
 use borrow.Author.Tests.{le-leb, ltb-true, ltb-false}
 use lib.Dec.{leb, ltb}
@@ -39,7 +40,8 @@ module _ (height swing : ℕ) (positive : 0 < swing) where
       let above : height * 8192 + swing < suc code * (2 * swing) = rw suc-mul (omega arith) in
       le-antisymm (le-div-iff-mul-le wide .1 below) (le-of-suc-le-suc (div-lt-iff-lt-mul wide .1 above))
 
-  by-order : (code other : ℕ) (t u : Bool) → ltb code other ≡ t → ltb other code ≡ u → Nearest height swing code → distance height swing code ≤ distance height swing other
+  by-order : (code other : ℕ) (t u : Bool) → ltb code other ≡ t → ltb other code ≡ u → Nearest height swing code
+      → distance height swing code ≤ distance height swing other
   by-order code other true u p q n = let step = one-more code other swing (ltb-true code other p) in omega arith
   by-order code other false true p q n = let step = one-more other code swing (ltb-true other code q) in omega arith
   by-order code other false false p q n =
@@ -62,8 +64,9 @@ chosen : (n r : ℕ) (t : Bool) → r ≡ plain (if t then given n else refused 
 chosen n r true e h = e
 chosen n r false e h = absurd (omega arith)
 
-pub answered : (r below swing : ℕ) (microvolts : ℤ) → 0 < swing → r ≡ plain (above (microvolts +ℤ pos below) swing) → Answers r (span below swing) microvolts
-answered r below swing microvolts positive e = record {
+pub answers-nearest : (r below swing : ℕ) (microvolts : ℤ) → 0 < swing → r ≡ plain (above (microvolts +ℤ pos below) swing)
+    → Answers r (span below swing) microvolts
+answers-nearest r below swing microvolts positive e = record {
   is = e;
   near = λ height p small.
       rw (chosen (nearest height swing) r (leb (nearest height swing) 4095) (rw p at e) small) (is-nearest height swing positive);

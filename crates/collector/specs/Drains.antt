@@ -10,7 +10,7 @@ use lib.ListN.{length}
 use Rattle.base.specs.Choice.{if_then_else_}
 use Rattle.collector_settings.specs.declared.Settings.{Settings}
 use Rattle.collector_phases.specs.declared.Collector.{Collector}
-use Rattle.collector_answers.specs.declared.Sample.{Sample}
+use Rattle.samples.specs.declared.Sample.{Sample}
 use Rattle.collector_phases.specs.declared.Phase.{Phase}
 use Rattle.collector_phases.specs.declared.Phase.the-variants.{Drain}
 use Rattle.collector_steps.specs.declared.Handed.{Handed}

@@ -6,7 +6,7 @@ use mathlib.Core.Bool.{Bool, true, false, _&&_, _||_}
 use mathlib.Core.List.{List, [], _∷_}
 use lib.Dec.{eqb}
 use Rattle.base.specs.Choice.{if_then_else_}
-use Rattle.collector_answers.specs.declared.Sample.{Sample}
+use Rattle.samples.specs.declared.Sample.{Sample}
 use Rattle.collector_records.specs.declared.Started.{Started}
 use Rattle.collector_records.specs.declared.Started.the-variants.{Begun, NotBegun}
 use Rattle.collector_phases.specs.declared.Access.{Access}
@@ -27,12 +27,12 @@ accessNumber (ReadWord o) = 0
 accessNumber (NoAccess n) = n
 
 -- the refusal of an answer
-abbrev pub refusalNumber : Handed → ℕ
-refusalNumber Nothing = 0
-refusalNumber StartEnd = 0
-refusalNumber (OneSample y) = 0
-refusalNumber (LastSample y) = 0
-refusalNumber (Refused n) = n
+abbrev pub handedRefusal : Handed → ℕ
+handedRefusal Nothing = 0
+handedRefusal StartEnd = 0
+handedRefusal (OneSample y) = 0
+handedRefusal (LastSample y) = 0
+handedRefusal (Refused n) = n
 
 -- the samples handed over
 abbrev pub samplesOf : Handed → List Sample

@@ -6,7 +6,7 @@ use mathlib.Core.Path.{_≡_, refl, sym, ap, _∙_, subst}
 use mathlib.Core.Bool.{true}
 use Rattle.collector_settings.specs.declared.Settings.{Settings}
 use Rattle.collector_phases.specs.declared.Collector.{Collector}
-use Rattle.collector_answers.specs.declared.Sample.{Sample}
+use Rattle.samples.specs.declared.Sample.{Sample}
 use Rattle.collector_phases.specs.declared.Access.{Access}
 use Rattle.collector_records.specs.declared.Started.the-variants.{Begun}
 use Rattle.collector_steps.specs.declared.Handed.the-variants.{LastSample}
@@ -23,14 +23,14 @@ use Rattle.collector.specs.Counts.{countedOn, underway, step-counts, ste
 -- ---- the history
 -- the answers brought to a collector, in order
 infixl 40 _▸_
-pub data Run : Type 0 where
-  begin : Run
-  _▸_ : Run → ℕ → Run
+pub data Brought : Type 0 where
+  begin : Brought
+  _▸_ : Brought → ℕ → Brought
 
 -- the collector after them
-unfoldable pub after : Collector → Run → Collector
-after c begin = c
-after c (r ▸ a) = replied (after c r) a .collector
+unfoldable pub afterAnswers : Collector → Brought → Collector
+afterAnswers c begin = c
+afterAnswers c (r ▸ a) = replied (afterAnswers c r) a .collector
 
 -- an access made, the answer that was brought, and what became of it
 pub record Exchange : Type 0 where
@@ -47,9 +47,9 @@ pub data History : Type 0 where
 abbrev pub exchange : Collector → ℕ → Exchange
 exchange c a = record { access = accessOf c; answer = a; taken = replied c a }
 
-unfoldable pub historyOf : Collector → Run → History
+unfoldable pub historyOf : Collector → Brought → History
 historyOf c begin = none
-historyOf c (r ▸ a) = historyOf c r and exchange (after c r) a
+historyOf c (r ▸ a) = historyOf c r and exchange (afterAnswers c r) a
 
 -- "the reads of offset 8 made since this start whose answers were taken"
 unfoldable pub pollsSince : History → ℕ
@@ -59,69 +59,70 @@ pollsSince (h and e) = countedOn (e .access) (e .taken .handed) (pollsSince h)
 -- ---- the theorems
 -- of a start with fit settings, after any run
 module _ (s : Settings) (f : FitSettings s) where
-  fit-after : (r : Run) → FitCollector (after (begun s) r)
-  unfolding after
+  fit-after : (r : Brought) → FitCollector (afterAnswers (begun s) r)
+  unfolding afterAnswers
   fit-after begin = begun-fit s f
-  fit-after (r ▸ a) = replied-fit (after (begun s) r) (fit-after r) a
+  fit-after (r ▸ a) = replied-fit (afterAnswers (begun s) r) (fit-after r) a
 
-  settings-after : (r : Run) → after (begun s) r .settings ≡ s
-  unfolding after
+  settings-after : (r : Brought) → afterAnswers (begun s) r .settings ≡ s
+  unfolding afterAnswers
   settings-after begin = refl
-  settings-after (r ▸ a) = step-holds _ a _ _ (step (after (begun s) r) a (fit-after r)) .0 ∙ settings-after r
+  settings-after (r ▸ a) = step-holds _ a _ _ (step (afterAnswers (begun s) r) a (fit-after r)) .0 ∙ settings-after r
 
-  reported : (r : Run) (a : ℕ) → (underway (phaseOf (after (begun s) r .phase)) ≡ true → after (begun s) r .polls ≡ pollsSince (historyOf (begun s) r))
-      → replied (after (begun s) r) a .polls ≡ pollsSince (historyOf (begun s) (r ▸ a))
+  reported : (r : Brought) (a : ℕ)
+      → (underway (phaseOf (afterAnswers (begun s) r .phase)) ≡ true → afterAnswers (begun s) r .polls ≡ pollsSince (historyOf (begun s) r))
+      → replied (afterAnswers (begun s) r) a .polls ≡ pollsSince (historyOf (begun s) (r ▸ a))
   unfolding pollsSince historyOf
   reported r a h =
-      let c = after (begun s) r in
+      let c = afterAnswers (begun s) r in
       let w = fit-after r in
       rw (access-fit c w) (step-counts c a (phaseOf (c .phase)) (replied c a) (pollsSince (historyOf (begun s) r)) (w .phase) h (step c a w))
 
-  held : (r : Run) → underway (phaseOf (after (begun s) r .phase)) ≡ true → after (begun s) r .polls ≡ pollsSince (historyOf (begun s) r)
-  unfolding after pollsSince historyOf
+  held : (r : Brought) → underway (phaseOf (afterAnswers (begun s) r .phase)) ≡ true → afterAnswers (begun s) r .polls ≡ pollsSince (historyOf (begun s) r)
+  unfolding afterAnswers pollsSince historyOf
   held begin u = refl
-  held (r ▸ a) u = step-holds _ a _ _ (step (after (begun s) r) a (fit-after r)) .1 u ∙ reported r a (held r)
+  held (r ▸ a) u = step-holds _ a _ _ (step (afterAnswers (begun s) r) a (fit-after r)) .1 u ∙ reported r a (held r)
 
 -- a run, and another one after it
 infixl 30 _then_
-unfoldable pub _then_ : Run → Run → Run
+unfoldable pub _then_ : Brought → Brought → Brought
 r then begin = r
 r then (q ▸ a) = (r then q) ▸ a
 
-after-then : (c : Collector) (r q : Run) → after c (r then q) ≡ after (after c r) q
-unfolding after _then_
+after-then : (c : Collector) (r q : Brought) → afterAnswers c (r then q) ≡ afterAnswers (afterAnswers c r) q
+unfolding afterAnswers _then_
 after-then c r begin = refl
 after-then c r (q ▸ a) = ap (λ (d : Collector). replied d a .collector) (after-then c r q)
 
 -- A collector that a start gave, after any run of answers
 module _ (s : Settings) (c : Collector) (h : started s ≡ Begun c) where
   -- it is fit, with the settings of its start
-  pub always-fit : (r : Run) → FitCollector (after c r)
+  pub always-fit : (r : Brought) → FitCollector (afterAnswers c r)
   always-fit r = let e = started-begun s c h in rw (e .0) (fit-after s (e .1) r)
 
-  pub same-settings : (r : Run) → after c r .settings ≡ s
+  pub same-settings : (r : Brought) → afterAnswers c r .settings ≡ s
   same-settings r = let e = started-begun s c h in rw (e .0) (settings-after s (e .1) r)
 
   -- the polls reported are the reads of offset 8 made since this start whose answers were taken
-  pub polls-are-reads : (r : Run) (a : ℕ) → replied (after c r) a .polls ≡ pollsSince (historyOf c (r ▸ a))
+  pub polls-are-reads : (r : Brought) (a : ℕ) → replied (afterAnswers c r) a .polls ≡ pollsSince (historyOf c (r ▸ a))
   polls-are-reads r a = let e = started-begun s c h in rw (e .0) (reported s (e .1) r a (held s (e .1) r))
 
   -- they are at most the limit
-  pub polls-within : (r : Run) (a : ℕ) → replied (after c r) a .polls ≤ s .limit
+  pub polls-within : (r : Brought) (a : ℕ) → replied (afterAnswers c r) a .polls ≤ s .limit
   polls-within r a =
-      let d = after c r in
+      let d = afterAnswers c r in
       let w = always-fit r in
       subst (λ (t : Settings). replied d a .polls ≤ t .limit) (same-settings r)
       (step-within d a (phaseOf (d .phase)) (replied d a) (w .phase) (w .polls) (step d a w))
 
   -- a restart counts anew: after a gap the collector is as at its start, and its polls are the reads from there on
-  pub gap-restarts : (r : Run) (a : ℕ) (y : Sample) → replied (after c r) a .handed ≡ LastSample y → after c (r ▸ a) ≡ c
-  unfolding after
+  pub gap-restarts : (r : Brought) (a : ℕ) (y : Sample) → replied (afterAnswers c r) a .handed ≡ LastSample y → afterAnswers c (r ▸ a) ≡ c
+  unfolding afterAnswers
   gap-restarts r a y g =
-      let d = after c r in
+      let d = afterAnswers c r in
       gap-begins d a (phaseOf (d .phase)) (replied d a) y (step d a (always-fit r)) g
       ∙ ap (λ (t : Settings). begun t) (same-settings r) ∙ sym (started-begun s c h .0)
 
-  pub counts-anew : (r : Run) (a : ℕ) (y : Sample) → replied (after c r) a .handed ≡ LastSample y
-      → (q : Run) (b : ℕ) → replied (after c ((r ▸ a) then q)) b .polls ≡ pollsSince (historyOf c (q ▸ b))
+  pub counts-anew : (r : Brought) (a : ℕ) (y : Sample) → replied (afterAnswers c r) a .handed ≡ LastSample y
+      → (q : Brought) (b : ℕ) → replied (afterAnswers c ((r ▸ a) then q)) b .polls ≡ pollsSince (historyOf c (q ▸ b))
   counts-anew r a y g q b = rw (after-then c (r ▸ a) q, gap-restarts r a y g) (polls-are-reads q b)

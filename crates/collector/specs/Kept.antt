@@ -17,7 +17,7 @@ use Rattle.collector_settings.specs.Settings.{startRefusal}
 use Rattle.collector_phases.specs.Phases.{number, phaseOf}
 use Rattle.collector_phases.specs.Fit.{FitSettings, FitIn, FitCollector}
 use Rattle.collector_replies.specs.Joined.{settings-of, settings-to}
-use Rattle.collector_records.specs.Records.{begun, started, entered, counted, draining, following, passed}
+use Rattle.collector_records.specs.Records.{begun, started, entered, counted, draining, follows, following, passed}
 use Rattle.collector_replies.specs.Reply.{replied}
 use Rattle.collector.specs.Steps.{Step, step}
 use Rattle.collector.specs.Steps.{stopped, poll-wide, poll-free, poll-again, poll-last, ranged, cleared, lowered, raised, went}
@@ -43,6 +43,21 @@ pub started-fit : (s : Settings) → FitSettings s → started s ≡ Begun (begu
 unfolding started
 started-fit s f = rw (settings-to s f)
 
+-- ---- channels of a range
+pub follows-from : (t : Settings) (n : ℕ) → FitSettings t → t .low ≤ n → t .low ≤ follows t n
+follows-from t n f h = by-test (λ (k : ℕ). t .low ≤ k) (eqb n (t .high)) (λ e. omega arith) (λ e. omega arith)
+
+above : (m n : ℕ) → m ≤ n → (m ≡ n → ⊥) → m + 1 ≤ n
+above m n h f = by (leb (m + 1) n) refl
+  where
+    by : (b : Bool) → leb (m + 1) n ≡ b → m + 1 ≤ n
+    by true t = leb-true _ _ t
+    by false t = absurd (f (let g : n < m + 1 = leb-false (m + 1) n t in omega arith))
+
+pub follows-to : (t : Settings) (n : ℕ) → FitSettings t → n ≤ t .high → follows t n ≤ t .high
+follows-to t n f h =
+    by-test (λ (k : ℕ). k ≤ t .high) (eqb n (t .high)) (λ e. f .order) (λ e. above n (t .high) h (eqb-false _ _ e))
+
 module _ (c : Collector) (w : FitCollector c) where
   -- ---- the parts of a step
   entered-fit : (n : ℕ) → FitIn (phaseOf n) (entered c n) → FitCollector (entered c n)
@@ -57,21 +72,10 @@ module _ (c : Collector) (w : FitCollector c) where
       record { settings = w .settings; from-low = w .from-low; to-high = w .to-high; polls = w .polls; phase = (omega arith, omega arith) }
 
   following-from : c .settings .low ≤ following c
-  following-from =
-      by-test (λ (n : ℕ). c .settings .low ≤ n) (eqb (c .next) (c .settings .high)) (λ e. omega arith)
-      (λ e. let a : c .settings .low ≤ c .next = w .from-low in omega arith)
+  following-from = follows-from (c .settings) (c .next) (w .settings) (w .from-low)
 
   following-to : following c ≤ c .settings .high
-  following-to =
-      by-test (λ (n : ℕ). n ≤ c .settings .high) (eqb (c .next) (c .settings .high)) (λ e. w .settings .order)
-      (λ e. above (c .next) (c .settings .high) (w .to-high) (eqb-false _ _ e))
-    where
-      above : (m n : ℕ) → m ≤ n → (m ≡ n → ⊥) → m + 1 ≤ n
-      above m n h f = by (leb (m + 1) n) refl
-        where
-          by : (b : Bool) → leb (m + 1) n ≡ b → m + 1 ≤ n
-          by true t = leb-true _ _ t
-          by false t = absurd (f (let g : n < m + 1 = leb-false (m + 1) n t in omega arith))
+  following-to = follows-to (c .settings) (c .next) (w .settings) (w .to-high)
 
   passed-fit : (n left : ℕ) → FitIn (phaseOf n) (passed c n left) → FitCollector (passed c n left)
   passed-fit n left f =

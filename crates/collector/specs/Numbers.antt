@@ -24,7 +24,7 @@ use Rattle.collector_refusals.specs.Refusals.{answerChecks}
 use Rattle.collector_steps.specs.declared.Taken.{Taken}
 use Rattle.collector_replies.specs.Joined.{fit-of}
 use Rattle.collector_replies.specs.Reply.{answered, decided, replied}
-use Rattle.collector.specs.Handed.{startNumber, accessNumber, refusalNumber, startEnds, isGo, is-go}
+use Rattle.collector.specs.Handed.{startNumber, accessNumber, handedRefusal, startEnds, isGo, is-go}
 use Rattle.collector.specs.Steps.{Step, step, access-fit, reply-unfit, access-unfit}
 use Rattle.collector.specs.Steps.{stopped, poll-wide, poll-free, poll-again, poll-last, ranged, cleared, lowered, raised, went}
 use Rattle.collector.specs.Steps.{look-wide, look-contradicts, look-empty, look-full, look-few, taken, drained, closed, stands}
@@ -69,11 +69,11 @@ access-number c = by (fit c) refl
 
 -- ---- an answer: 1, 15 once stuck, 17, 15 at the last poll, 16
 pub reply-number : (c : Collector) (a : ℕ)
-    → refusalNumber (replied c a .handed) ≡ refusal (answerChecks (accessIn (phaseOf (c .phase)) (c .settings)) c a)
+    → handedRefusal (replied c a .handed) ≡ refusal (answerChecks (accessIn (phaseOf (c .phase)) (c .settings)) c a)
 unfolding replied
 reply-number c a = by (refusal (answerChecks (accessIn (phaseOf (c .phase)) (c .settings)) c a)) (phaseOf (c .phase))
   where
-    answered-number : (p : Phase) → refusalNumber (answered p c a .handed) ≡ 0
+    answered-number : (p : Phase) → handedRefusal (answered p c a .handed) ≡ 0
     answered-number Stop = refl
     answered-number Poll = refl
     answered-number Range = refl
@@ -83,14 +83,14 @@ reply-number c a = by (refusal (answerChecks (accessIn (phaseOf (c .phase)) (c .
     answered-number Go = refl
     answered-number Look = refl
     answered-number Take = refl
-    answered-number Drain = by-choice (λ (r : Taken). refusalNumber (r .handed) ≡ 0) (leb (c .left) 1) refl refl
+    answered-number Drain = by-choice (λ (r : Taken). handedRefusal (r .handed) ≡ 0) (leb (c .left) 1) refl refl
     answered-number Stuck = refl
     answered-number Unknown = refl
 
-    by : (n : ℕ) (p : Phase) → refusalNumber (decided n p c a .handed) ≡ n
+    by : (n : ℕ) (p : Phase) → handedRefusal (decided n p c a .handed) ≡ n
     by n p = test (eqb n 0) refl
       where
-        test : (t : Bool) → eqb n 0 ≡ t → refusalNumber (decided n p c a .handed) ≡ n
+        test : (t : Bool) → eqb n 0 ≡ t → handedRefusal (decided n p c a .handed) ≡ n
         test true h = rw h (answered-number p ∙ sym (eqb-true _ _ h))
         test false h = rw h
 

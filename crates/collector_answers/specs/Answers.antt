@@ -5,7 +5,7 @@ use mathlib.Core.Bool.{Bool, not, _&&_, _||_}
 use lib.Dec.{ltb}
 use Rattle.base.specs.Fields.{bit}
 use Rattle.converter.specs.Codes.{codeOf}
-use Rattle.collector_answers.specs.declared.Sample.{Sample}
+use Rattle.samples.specs.declared.Sample.{Sample}
 
 -- no byte: above 255
 abbrev pub wide : ℕ → Bool
@@ -13,20 +13,20 @@ wide a = ltb 255 a
 
 -- ---- Base + 8: STS, bit 7, a conversion is in progress
 abbrev pub STS : ℕ → Bool
-STS a = bit a 128
+STS a = bit a 7
 
 -- ---- Base + 7: EF, HF, FF, OVF are bits 7 to 4
 abbrev pub EF : ℕ → Bool
-EF a = bit a 128
+EF a = bit a 7
 
 abbrev pub HF : ℕ → Bool
-HF a = bit a 64
+HF a = bit a 6
 
 abbrev pub FF : ℕ → Bool
-FF a = bit a 32
+FF a = bit a 5
 
 abbrev pub OVF : ℕ → Bool
-OVF a = bit a 16
+OVF a = bit a 4
 
 -- 16: "status has EF with HF or FF, or OVF without FF"
 abbrev pub contradicts : ℕ → Bool

@@ -1,18 +1,12 @@
 // How an answer of the bus is read: specs/Answers.antt.
 ghost use mathlib.Core.Path.{_≡_};
 ghost use Rattle.collector_answers.specs.Answers.{wide, STS, EF, contradicts, isFull, sampleAt};
+use samples::Sample;
 
 // What came of an access: the number that the bus brought (a byte, a word, or for a write anything), or the number by which the board refused it.
 pub enum BusAnswer {
     Number(u16),
     Refused(u8),
-}
-
-// A sample that is handed over: its channel and its signed code.
-#[repr(C)]
-pub struct Sample {
-    pub channel: u16,
-    pub code: i16,
 }
 
 // No byte: above 255.

@@ -34,9 +34,13 @@ counted c n = record { settings = c .settings; phase = n; next = c .next; polls 
 abbrev pub draining : Collector → Collector
 draining c = record { settings = c .settings; phase = number Drain; next = c .next; polls = c .polls; left = 512 }
 
--- the channel after the next sample's: high goes to low, else one up
+-- the channel after this one: high goes to low, else one up
+abbrev pub follows : Settings → ℕ → ℕ
+follows s channel = if eqb channel (s .high) then s .low else channel + 1
+
+-- the channel after the next sample's
 abbrev pub following : Collector → ℕ
-following c = if eqb (c .next) (c .settings .high) then c .settings .low else c .next + 1
+following c = follows (c .settings) (c .next)
 
 -- a sample has left, so many word reads are left, and the next channel's turn comes
 abbrev pub passed : Collector → ℕ → ℕ → Collector

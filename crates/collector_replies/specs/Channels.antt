@@ -7,8 +7,7 @@ use native.Mathlib.Omega.{arith}
 use borrow.Author.Tests.{ltb-true, ltb-false, leb-true, leb-false, le-leb, lt-leb, le-ltb}
 use lib.Dec.{eqb, leb, ltb}
 use Rattle.base.specs.Choice.{if_then_else_}
-use Rattle.base.specs.Laws.{never, under-and}
-use Rattle.ranges.specs.Laws.{neither}
+use Rattle.base.specs.Laws.{never, neither, under-and}
 use Rattle.collector_settings.specs.Settings.{hasChannel, lacking}
 
 module _ (low high : ℕ) (order : low ≤ high) (top : high ≤ 31) where
@@ -45,7 +44,8 @@ module _ (low high : ℕ) (order : low ≤ high) (top : high ≤ 31) where
   -- by the four jumper settings
   has-all : (a b c d : Bool) (channel : ℕ) → low ≤ channel → channel ≤ high
       → (if a then ltb 31 high else if b then ltb 15 high else if c then ltb 31 high || ltb 15 high && ltb low 24 else if d then ltb 23 high else true) ≡ false
-      → (if a then leb channel 31 else if b then leb channel 15 else if c then leb channel 15 || leb 24 channel && leb channel 31 else if d then leb channel 23 else false) ≡ true
+      → (if a then leb channel 31 else if b then leb channel 15 else if c then leb channel 15 || leb 24 channel && leb channel 31 else if d then leb channel 23
+      else false) ≡ true
   has-all true b c d channel l h t = le-leb channel 31 (omega arith)
   has-all false true c d channel l h t = let g : high ≤ 15 = ltb-false 15 high t in le-leb channel 15 (omega arith)
   has-all false false true d channel l h t = has-c channel l h t
@@ -54,7 +54,8 @@ module _ (low high : ℕ) (order : low ≤ high) (top : high ≤ 31) where
 
   all-has : (a b c d : Bool)
       → ((channel : ℕ) → low ≤ channel → channel ≤ high
-      → (if a then leb channel 31 else if b then leb channel 15 else if c then leb channel 15 || leb 24 channel && leb channel 31 else if d then leb channel 23 else false) ≡ true)
+      → (if a then leb channel 31 else if b then leb channel 15 else if c then leb channel 15 || leb 24 channel && leb channel 31 else if d then leb channel 23
+      else false) ≡ true)
       → (if a then ltb 31 high else if b then ltb 15 high else if c then ltb 31 high || ltb 15 high && ltb low 24 else if d then ltb 23 high else true) ≡ false
   all-has true b c d all = le-ltb 31 high top
   all-has false true c d all = le-ltb 15 high (leb-true high 15 (all high order (omega arith)))

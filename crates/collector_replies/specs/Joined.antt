@@ -5,8 +5,7 @@ use mathlib.Core.Bool.{Bool, true, false, _&&_}
 use native.Mathlib.Omega.{arith}
 use borrow.Author.Tests.{eqb-true, eqb-false, ltb-true, ltb-false, leb-true, leb-false, eq-eqb, ne-eqb, lt-ltb, le-ltb, le-leb}
 use lib.Dec.{eqb, leb, ltb}
-use Rattle.base.specs.Laws.{never, under-and}
-use Rattle.ranges.specs.Laws.{neither}
+use Rattle.base.specs.Laws.{never, neither, under-and}
 use Rattle.base.specs.Unrefused.{none-hold, none-refuses}
 use Rattle.base.specs.Tests.{each, every}
 use Rattle.collector_settings.specs.declared.Settings.{Settings}

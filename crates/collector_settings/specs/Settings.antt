@@ -5,7 +5,7 @@ use mathlib.Core.Bool.{Bool, true, false, _&&_, _||_}
 use mathlib.Core.List.{List, [], _∷_}
 use lib.Dec.{eqb, leb, ltb}
 use Rattle.base.specs.Choice.{if_then_else_}
-use Rattle.ranges.specs.Ranges.{badRange}
+use Rattle.samples.specs.Refused.{badRange, codeRefused}
 use Rattle.base.specs.Checks.{Check, _refuses_, refusal}
 use Rattle.collector_settings.specs.declared.Settings.{Settings}
 
@@ -29,13 +29,9 @@ lacking jumpers low high =
     else true
 
 -- ---- "Collector start: 14, 11, 12, 13"
--- 14: poll limit 0 or above 1,000 (11, a bad range, is in the crate ranges)
+-- 14: poll limit 0 or above 1,000 (11, a bad range, and 13, a range code, are in the crate samples)
 abbrev pub limitRefused : ℕ → Bool
 limitRefused limit = eqb limit 0 || ltb 1000 limit
-
--- 13: range code 4-7 or above 15
-abbrev pub codeRefused : ℕ → Bool
-codeRefused code = leb 4 code && leb code 7 || ltb 15 code
 
 abbrev pub rangeChecks : Settings → List Check
 rangeChecks s =

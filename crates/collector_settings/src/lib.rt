@@ -1,7 +1,7 @@
 // What a start of the collector is given, and what of it is refused: specs/Settings.antt.
 ghost use mathlib.Core.Path.{_≡_};
 ghost use Rattle.base.specs.Checks.{refusal};
-ghost use Rattle.collector_settings.specs.Settings.{lacking, limitRefused, codeRefused, rangeChecks, startRefusal, clockByte};
+ghost use Rattle.collector_settings.specs.Settings.{lacking, limitRefused, rangeChecks, startRefusal, clockByte};
 
 // What a start is given. Jumpers: 0 is A, 1 is B, 2 is C, 3 is D, and no other number has a channel (refusal 12). Range: the range code of
 // Base + 11. Clock: 0 is the external one, any other number the internal one. Limit: the polls that a start may make.
@@ -35,21 +35,14 @@ fn refuses_limit(limit: u16) -> bool
     (limit == 0) | (1000 < limit)
 }
 
-// Range code 4-7 or above 15: 13.
-fn refuses_code(code: u8) -> bool
-    ensures { λ r. ⌜ r ≡ codeRefused code ⌝ }
-{
-    ((4 <= code) & (code <= 7)) | (15 < code)
-}
-
 fn range_refusal(s: Settings) -> u8
     ensures { λ r. ⌜ r ≡ refusal (rangeChecks s) ⌝ }
 {
-    if ranges::is_bad_range(s.low as u32, s.high as u32) {
+    if samples::is_bad_range(s.low as u32, s.high as u32) {
         11
     } else if lacks(s.jumpers, s.low, s.high) {
         12
-    } else if refuses_code(s.range) {
+    } else if samples::refuses_code(s.range) {
         13
     } else {
         0

@@ -1,6 +1,6 @@
 // What the answer to a read leads to: specs/Reads.antt. The bounds that some functions require hold of every fit record.
-use collector_answers::Sample;
 use collector_phases::Collector;
+use samples::Sample;
 ghost use mathlib.Core.Path.{_≡_};
 ghost use Prim.Native.Nat.{_<_};
 ghost use Rattle.collector_steps.specs.Reads.{reports, polled, looked, took, drained};

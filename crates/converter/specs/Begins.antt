@@ -6,14 +6,17 @@ use Prim.Native.Nat.{ℕ}
 use Rattle.base.specs.Flags.{on}
 use Rattle.base.specs.Choice.{if_then_else_}
 use Rattle.converter.specs.declared.channels.Converter.{Converter}
-use Rattle.converter.specs.Channels.{started, idle, triggerStarts, triggered, softwareTrigger, clockTrigger, endStarts, ended}
+use Rattle.converter.specs.Channels.{started, idle, triggerStarts, triggered, softwareTrigger, internalTrigger, externalTrigger, endStarts, ended}
 
 -- whether a write of 0 begins a conversion, and whether these edges do
 abbrev pub softwareStarts : Converter → Bool
 softwareStarts c = triggerStarts c (softwareTrigger c)
 
-abbrev pub clockStarts : Converter → Bool → Bool → Bool → Bool → Bool
-clockStarts c clksel out2Falls din3Falls stopped = triggerStarts c (clockTrigger c clksel out2Falls din3Falls stopped)
+abbrev pub internalStarts : Converter → Bool → Bool → Bool
+internalStarts c clksel out2Falls = triggerStarts c (internalTrigger c clksel out2Falls)
+
+abbrev pub externalStarts : Converter → Bool → Bool → Bool → Bool
+externalStarts c clksel din3Falls stopped = triggerStarts c (externalTrigger c clksel din3Falls stopped)
 
 -- the channel of a conversion that begins now
 abbrev pub startsOn : Converter → ℕ

@@ -12,13 +12,13 @@ abbrev pub ranged : ℕ → ℕ → Converter
 ranged low high = writtenHigh (writtenLow freshConverter low) high
 
 -- after k single conversions
-unfoldable pub after : ℕ → Converter → Converter
-after zero c = c
-after (suc k) c = after k (ended (softwareTriggered c))
+unfoldable pub afterSingles : ℕ → Converter → Converter
+afterSingles zero c = c
+afterSingles (suc k) c = afterSingles k (ended (softwareTriggered c))
 
 -- channels 3-5, five conversions: 3, 4, 5, 3, 4; selected 5
-pub case-3 : (singles 5 (ranged 3 5) ≡ 3 ∷ 4 ∷ 5 ∷ 3 ∷ 4 ∷ []) × (after 5 (ranged 3 5) .selected ≡ 5)
-unfolding singles after nextChannel
+pub case-3 : (singles 5 (ranged 3 5) ≡ 3 ∷ 4 ∷ 5 ∷ 3 ∷ 4 ∷ []) × (afterSingles 5 (ranged 3 5) .selected ≡ 5)
+unfolding singles afterSingles nextChannel
 case-3 = (refl, refl)
 
 -- low 30, high 1: 30, 31, 0, 1, 30

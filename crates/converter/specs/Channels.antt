@@ -57,11 +57,17 @@ abbrev pub softwareTriggered : Converter → Converter
 softwareTriggered c = triggered c (softwareTrigger c)
 
 -- with CLKEN, triggers are falling OUT2 (CLKSEL=1) or falling DIN3 (0); GT12EN with DIN2=0 stops DIN3 triggers
-abbrev pub clockTrigger : Converter → Bool → Bool → Bool → Bool → Bool
-clockTrigger c clksel out2Falls din3Falls stopped = on (c .clken) && (clksel && out2Falls || not clksel && din3Falls && not stopped)
+abbrev pub internalTrigger : Converter → Bool → Bool → Bool
+internalTrigger c clksel out2Falls = on (c .clken) && clksel && out2Falls
 
-abbrev pub clockTriggered : Converter → Bool → Bool → Bool → Bool → Converter
-clockTriggered c clksel out2Falls din3Falls stopped = triggered c (clockTrigger c clksel out2Falls din3Falls stopped)
+abbrev pub externalTrigger : Converter → Bool → Bool → Bool → Bool
+externalTrigger c clksel din3Falls stopped = on (c .clken) && not clksel && din3Falls && not stopped
+
+abbrev pub internalTriggered : Converter → Bool → Bool → Converter
+internalTriggered c clksel out2Falls = triggered c (internalTrigger c clksel out2Falls)
+
+abbrev pub externalTriggered : Converter → Bool → Bool → Bool → Converter
+externalTriggered c clksel din3Falls stopped = triggered c (externalTrigger c clksel din3Falls stopped)
 
 -- whether an end starts the next conversion: SCANEN is set at the end, and the channel just converted is not high as it then stands
 abbrev pub endStarts : Converter → Bool

@@ -35,14 +35,14 @@ converterTests c =
     ∷ leb (c .clken) 1
     ∷ []
 
-abbrev pub isWorking : Converter → Bool
-isWorking c = all (converterTests c)
+abbrev pub isWorkingConverter : Converter → Bool
+isWorkingConverter c = all (converterTests c)
 
-pub working-of : (c : Converter) → isWorking c ≡ true → WorkingConverter c
-working-of c h = let e = each (converterTests c) h in omega (arith, leb-true)
+pub converter-of : (c : Converter) → isWorkingConverter c ≡ true → WorkingConverter c
+converter-of c h = let e = each (converterTests c) h in omega (arith, leb-true)
 
-pub working-to : (c : Converter) → WorkingConverter c → isWorking c ≡ true
-working-to c w =
+pub converter-to : (c : Converter) → WorkingConverter c → isWorkingConverter c ≡ true
+converter-to c w =
     every (converterTests c) (search (le-leb, arith))
 
 -- ---- what keeps it so

@@ -1,9 +1,9 @@
 // Channels, triggers and ends of conversions (manual 10.1, 11.3, 11.4, Base + 0, 2, 3, 7, 8, 9).
 ghost use mathlib.Core.Path.{_≡_};
 ghost use Prim.Native.Nat.{_+_, _%_};
-ghost use Rattle.converter.specs.Channels.{nextChannel, started, triggered, softwareTriggered, clockTriggered, isLast};
+ghost use Rattle.converter.specs.Channels.{nextChannel, started, triggered, softwareTriggered, internalTriggered, externalTriggered, isLast};
 ghost use Rattle.converter.specs.Registers.{writtenLow, writtenHigh, writtenScanen, writtenClken, statusBits, freshConverter};
-ghost use Rattle.converter.specs.Working.{isWorking};
+ghost use Rattle.converter.specs.Working.{isWorkingConverter};
 
 #[repr(C)]
 pub struct Converter {
@@ -58,14 +58,18 @@ pub fn software_trigger(c: Converter) -> Converter
     trigger(c, c.clken != 1)
 }
 
-// The hardware clock: with CLKEN a fall of OUT2 (CLKSEL set) or of DIN3 (clear) is a trigger; `stopped` says that GT12EN is set with DIN2 low.
-pub fn clock_trigger(c: Converter, clksel: bool, out2: bool, din3: bool, stopped: bool) -> Converter
-    ensures { λ r. ⌜ r ≡ clockTriggered c clksel out2 din3 stopped ⌝ }
+// The internal clock: with CLKEN and CLKSEL a fall of OUT2 is a trigger.
+pub fn internal_trigger(c: Converter, clksel: bool, out2: bool) -> Converter
+    ensures { λ r. ⌜ r ≡ internalTriggered c clksel out2 ⌝ }
 {
-    trigger(
-        c,
-        (c.clken == 1) & ((clksel & out2) | (!clksel & din3 & !stopped)),
-    )
+    trigger(c, (c.clken == 1) & clksel & out2)
+}
+
+// The external clock: with CLKEN and without CLKSEL a fall of DIN3 is a trigger; `stopped` says that GT12EN is set with DIN2 low.
+pub fn external_trigger(c: Converter, clksel: bool, din3: bool, stopped: bool) -> Converter
+    ensures { λ r. ⌜ r ≡ externalTriggered c clksel din3 stopped ⌝ }
+{
+    trigger(c, (c.clken == 1) & !clksel & din3 & !stopped)
 }
 
 // Whether an end now is a single one or the last of its scan.
@@ -137,7 +141,7 @@ pub fn fresh_converter() -> Converter
 
 // Whether every channel is one of the 32, and every flag 0 or 1.
 pub fn is_working(c: Converter) -> bool
-    ensures { λ r. ⌜ r ≡ isWorking c ⌝ }
+    ensures { λ r. ⌜ r ≡ isWorkingConverter c ⌝ }
 {
     let joined = base::join_words(
         base::join_bytes(c.low, c.high),

@@ -21,7 +21,8 @@ pub extern "C" fn dmm32_write_byte(
     offset: u32,
     value: u8,
 ) -> u32
-    ensures { λ r. ⌜ Stepped answerNumber (now (board .entry)) (now (memory .entry)) (now (eeprom .entry)) (Event.WriteByte offset value) r (now (board .exit)) (now (memory .exit)) (now (eeprom .exit)) ⌝ }
+    ensures { λ r. ⌜ Stepped answerNumber (now (board .entry)) (now (memory .entry)) (now (eeprom .entry)) (Event.WriteByte offset value) r (now (board .exit))
+        (now (memory .exit)) (now (eeprom .exit)) ⌝ }
 {
     if (memory.len() != 512) | (eeprom.len() != 128) {
         return 0x62000000;
@@ -39,7 +40,8 @@ pub extern "C" fn dmm32_read_byte(
     eeprom: &mut [u8],
     offset: u32,
 ) -> u32
-    ensures { λ r. ⌜ Stepped answerNumber (now (board .entry)) (now (memory .entry)) (now (eeprom .entry)) (Event.ReadByte offset) r (now (board .exit)) (now (memory .exit)) (now (eeprom .exit)) ⌝ }
+    ensures { λ r. ⌜ Stepped answerNumber (now (board .entry)) (now (memory .entry)) (now (eeprom .entry)) (Event.ReadByte offset) r (now (board .exit))
+        (now (memory .exit)) (now (eeprom .exit)) ⌝ }
 {
     if (memory.len() != 512) | (eeprom.len() != 128) {
         return 0x62000000;
@@ -57,7 +59,8 @@ pub extern "C" fn dmm32_read_word(
     eeprom: &mut [u8],
     offset: u32,
 ) -> u32
-    ensures { λ r. ⌜ Stepped answerNumber (now (board .entry)) (now (memory .entry)) (now (eeprom .entry)) (Event.ReadWord offset) r (now (board .exit)) (now (memory .exit)) (now (eeprom .exit)) ⌝ }
+    ensures { λ r. ⌜ Stepped answerNumber (now (board .entry)) (now (memory .entry)) (now (eeprom .entry)) (Event.ReadWord offset) r (now (board .exit))
+        (now (memory .exit)) (now (eeprom .exit)) ⌝ }
 {
     if (memory.len() != 512) | (eeprom.len() != 128) {
         return 0x62000000;
@@ -75,7 +78,8 @@ pub extern "C" fn dmm32_conversion_end(
     eeprom: &mut [u8],
     code: i16,
 ) -> u32
-    ensures { λ r. ⌜ Stepped answerNumber (now (board .entry)) (now (memory .entry)) (now (eeprom .entry)) (Event.ConversionEnd code) r (now (board .exit)) (now (memory .exit)) (now (eeprom .exit)) ⌝ }
+    ensures { λ r. ⌜ Stepped answerNumber (now (board .entry)) (now (memory .entry)) (now (eeprom .entry)) (Event.ConversionEnd code) r (now (board .exit))
+        (now (memory .exit)) (now (eeprom .exit)) ⌝ }
 {
     if (memory.len() != 512) | (eeprom.len() != 128) {
         return 0x62000000;
@@ -93,7 +97,8 @@ pub extern "C" fn dmm32_din(
     eeprom: &mut [u8],
     lines: u32,
 ) -> u32
-    ensures { λ r. ⌜ Stepped answerNumber (now (board .entry)) (now (memory .entry)) (now (eeprom .entry)) (Event.DinPins (record { lines = lines })) r (now (board .exit)) (now (memory .exit)) (now (eeprom .exit)) ⌝ }
+    ensures { λ r. ⌜ Stepped answerNumber (now (board .entry)) (now (memory .entry)) (now (eeprom .entry)) (Event.DinPins (record { lines = lines })) r
+        (now (board .exit)) (now (memory .exit)) (now (eeprom .exit)) ⌝ }
 {
     if (memory.len() != 512) | (eeprom.len() != 128) {
         return 0x62000000;
@@ -111,7 +116,8 @@ pub extern "C" fn dmm32_latch(
     eeprom: &mut [u8],
     level: u32,
 ) -> u32
-    ensures { λ r. ⌜ Stepped answerNumber (now (board .entry)) (now (memory .entry)) (now (eeprom .entry)) (Event.LatchLevel level) r (now (board .exit)) (now (memory .exit)) (now (eeprom .exit)) ⌝ }
+    ensures { λ r. ⌜ Stepped answerNumber (now (board .entry)) (now (memory .entry)) (now (eeprom .entry)) (Event.LatchLevel level) r (now (board .exit))
+        (now (memory .exit)) (now (eeprom .exit)) ⌝ }
 {
     if (memory.len() != 512) | (eeprom.len() != 128) {
         return 0x62000000;
@@ -129,7 +135,8 @@ pub extern "C" fn dmm32_port_a_pins(
     eeprom: &mut [u8],
     pins: u8,
 ) -> u32
-    ensures { λ r. ⌜ Stepped answerNumber (now (board .entry)) (now (memory .entry)) (now (eeprom .entry)) (Event.PortPins Port.PortA pins) r (now (board .exit)) (now (memory .exit)) (now (eeprom .exit)) ⌝ }
+    ensures { λ r. ⌜ Stepped answerNumber (now (board .entry)) (now (memory .entry)) (now (eeprom .entry)) (Event.PortPins Port.PortA pins) r
+        (now (board .exit)) (now (memory .exit)) (now (eeprom .exit)) ⌝ }
 {
     if (memory.len() != 512) | (eeprom.len() != 128) {
         return 0x62000000;
@@ -147,7 +154,8 @@ pub extern "C" fn dmm32_port_b_pins(
     eeprom: &mut [u8],
     pins: u8,
 ) -> u32
-    ensures { λ r. ⌜ Stepped answerNumber (now (board .entry)) (now (memory .entry)) (now (eeprom .entry)) (Event.PortPins Port.PortB pins) r (now (board .exit)) (now (memory .exit)) (now (eeprom .exit)) ⌝ }
+    ensures { λ r. ⌜ Stepped answerNumber (now (board .entry)) (now (memory .entry)) (now (eeprom .entry)) (Event.PortPins Port.PortB pins) r
+        (now (board .exit)) (now (memory .exit)) (now (eeprom .exit)) ⌝ }
 {
     if (memory.len() != 512) | (eeprom.len() != 128) {
         return 0x62000000;
@@ -165,7 +173,8 @@ pub extern "C" fn dmm32_port_c_pins(
     eeprom: &mut [u8],
     pins: u8,
 ) -> u32
-    ensures { λ r. ⌜ Stepped answerNumber (now (board .entry)) (now (memory .entry)) (now (eeprom .entry)) (Event.PortPins Port.PortC pins) r (now (board .exit)) (now (memory .exit)) (now (eeprom .exit)) ⌝ }
+    ensures { λ r. ⌜ Stepped answerNumber (now (board .entry)) (now (memory .entry)) (now (eeprom .entry)) (Event.PortPins Port.PortC pins) r
+        (now (board .exit)) (now (memory .exit)) (now (eeprom .exit)) ⌝ }
 {
     if (memory.len() != 512) | (eeprom.len() != 128) {
         return 0x62000000;
@@ -178,7 +187,8 @@ pub extern "C" fn dmm32_port_c_pins(
 // One tick of the 10 MHz clock.
 #[no_mangle]
 pub extern "C" fn dmm32_tick(board: &mut Board, memory: &mut [u16], eeprom: &mut [u8]) -> u32
-    ensures { λ r. ⌜ Stepped answerNumber (now (board .entry)) (now (memory .entry)) (now (eeprom .entry)) Event.Tick r (now (board .exit)) (now (memory .exit)) (now (eeprom .exit)) ⌝ }
+    ensures { λ r. ⌜ Stepped answerNumber (now (board .entry)) (now (memory .entry)) (now (eeprom .entry)) Event.Tick r (now (board .exit)) (now (memory .exit))
+        (now (eeprom .exit)) ⌝ }
 {
     if (memory.len() != 512) | (eeprom.len() != 128) {
         return 0x62000000;
@@ -196,7 +206,8 @@ pub extern "C" fn dmm32_advance(
     eeprom: &mut [u8],
     ticks: u32,
 ) -> ProgressNumbered
-    ensures { λ r. ⌜ Moved progressNumbered (now (board .entry)) (now (memory .entry)) (now (eeprom .entry)) ticks r (now (board .exit)) (now (memory .exit)) (now (eeprom .exit)) ⌝ }
+    ensures { λ r. ⌜ Moved progressNumbered (now (board .entry)) (now (memory .entry)) (now (eeprom .entry)) ticks r (now (board .exit)) (now (memory .exit))
+        (now (eeprom .exit)) ⌝ }
 {
     let out = numbers::time::advance(*board, memory, eeprom, ticks);
     *board = out.board;
@@ -210,7 +221,8 @@ pub extern "C" fn dmm32_transfer_end(
     memory: &mut [u16],
     eeprom: &mut [u8],
 ) -> u32
-    ensures { λ r. ⌜ Stepped answerNumber (now (board .entry)) (now (memory .entry)) (now (eeprom .entry)) Event.TransferEnd r (now (board .exit)) (now (memory .exit)) (now (eeprom .exit)) ⌝ }
+    ensures { λ r. ⌜ Stepped answerNumber (now (board .entry)) (now (memory .entry)) (now (eeprom .entry)) Event.TransferEnd r (now (board .exit))
+        (now (memory .exit)) (now (eeprom .exit)) ⌝ }
 {
     if (memory.len() != 512) | (eeprom.len() != 128) {
         return 0x62000000;

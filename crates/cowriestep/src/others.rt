@@ -11,13 +11,13 @@ ghost use lib.ListN.{length};
 ghost use Rattle.requests.specs.Requests.{asking};
 ghost use Rattle.machine_due.specs.Due.{dueOf};
 ghost use Rattle.board_stores.specs.Stores.{freshMemory, freshEeprom, storesAnswer};
-ghost use Rattle.board_refusal.specs.Working.{workingBoard};
+ghost use Rattle.board_refusal.specs.Working.{isWorkingBoard};
 ghost use Rattle.board_advance.specs.Advance.{advancedOf};
 ghost use Rattle.collector_records.specs.Records.{started};
 ghost use Rattle.collector_phases.specs.Accesses.{accessOf};
 ghost use Rattle.collector_replies.specs.Reply.{told};
 ghost use Rattle.collector_phases.specs.Fit.{fit};
-ghost use Rattle.scans.specs.Scans.{wholeScans};
+ghost use Rattle.samples.specs.Scans.{wholeScans};
 ghost use Rattle.numbers.specs.Packed.{answerNumber};
 ghost use Rattle.numbers.specs.Boards.{freshOf};
 ghost use Rattle.numbers.specs.Collecting.{startAnswer, accessNamed, busAnswer, takenAnswer};
@@ -43,7 +43,7 @@ pub extern "C" fn dmm32_fresh_stores(memory: &mut [u16], eeprom: &mut [u8]) -> u
 // Whether the record and the sample memory are a working board's.
 #[no_mangle]
 pub extern "C" fn dmm32_is_working(board: Board, memory: &[u16]) -> bool
-    ensures { λ r. ⌜ r ≡ workingBoard board (now (memory .entry)) ⌝ }
+    ensures { λ r. ⌜ r ≡ isWorkingBoard board (now (memory .entry)) ⌝ }
 {
     board::is_working(board, memory)
 }
@@ -61,7 +61,7 @@ pub extern "C" fn dmm32_ticks_until(board: Board, memory: &[u16], eeprom: &[u8],
 pub extern "C" fn dmm32_irq(board: Board) -> bool
     ensures { λ r. ⌜ r ≡ asking (board .requests .flags) ⌝ }
 {
-    machine_due::irq(board)
+    machine::irq(board)
 }
 
 // What the host has to act on, of a board before and after what happened to it, as bits of one number.
@@ -69,7 +69,7 @@ pub extern "C" fn dmm32_irq(board: Board) -> bool
 pub extern "C" fn dmm32_due(before: Board, after: Board) -> u32
     ensures { λ r. ⌜ r ≡ dueOf before after ⌝ }
 {
-    machine_due::due(before, after)
+    machine::due(before, after)
 }
 
 // A collector for these settings, or the refusal 14, 11, 12 or 13.

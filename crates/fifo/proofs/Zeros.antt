@@ -39,7 +39,14 @@ pub zeros-more : (m : List ℕ) (at i bits : ℕ) → at + i < length m → eqb 
 unfolding zeros
 zeros-more m at i bits h e =
     let l : i < length (drop at m) = rw (length-drop at m) (omega arith) in
-    rw (add-one i, take-suc (drop at m) i 0 l, getD-drop at m i 0, zeros-append (take i (drop at m)) (getD m (at + i) 0 ∷ []), joined bits (getD m (at + i) 0), e)
+    rw (
+      add-one i,
+      take-suc (drop at m) i 0 l,
+      getD-drop at m i 0,
+      zeros-append (take i (drop at m)) (getD m (at + i) 0 ∷ []),
+      joined bits (getD m (at + i) 0),
+      e,
+    )
     (ap (λ (b : Bool). zeros (take i (drop at m)) && b) (sym (last (eqb (getD m (at + i) 0) 0))))
   where
     last : (b : Bool) → b && true ≡ b

@@ -50,8 +50,8 @@ pub fifoTests : Fifo → List ℕ → List Bool
 fifoTests f memory =
     eqb (length memory) 512 ∷ leb (f .held) 512 ∷ leb (f .ovf) 1 ∷ (not (on (f .ovf)) || eqb (f .held) 512) ∷ zeros (drop (f .held) memory) ∷ []
 
-pub isWorking : Fifo → List ℕ → Bool
-isWorking f memory = all (fifoTests f memory)
+pub isWorkingFifo : Fifo → List ℕ → Bool
+isWorkingFifo f memory = all (fifoTests f memory)
 
 -- a working board's sample memory
 pub record WorkingFifo (f : Fifo) (memory : List ℕ) : Type 0 where

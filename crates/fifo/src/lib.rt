@@ -7,7 +7,7 @@ ghost use lib.Dec.{eqb};
 ghost use lib.ListN.{length, take, drop};
 ghost use Rattle.fifo.specs.Samples.{oldestOf, pushed, popped};
 ghost use Rattle.fifo.specs.Flags.{EF, HF, FF, flagBits};
-ghost use Rattle.fifo.specs.Queue.{zeros, queue, emptyFifo, pushedTo, poppedFrom, Leaves, isWorking, WorkingFifo};
+ghost use Rattle.fifo.specs.Queue.{zeros, queue, emptyFifo, pushedTo, poppedFrom, Leaves, isWorkingFifo, WorkingFifo};
 ghost use Rattle.fifo.specs.Moves.{movedDown};
 
 #[repr(C)]
@@ -67,7 +67,7 @@ fn are_zero(memory: &[u16], from: usize) -> bool
 
 // Whether this is a working board's sample memory.
 pub fn is_working(f: Fifo, memory: &[u16]) -> bool
-    ensures { λ r. ⌜ r ≡ isWorking f (now (memory .entry)) ⌝ }
+    ensures { λ r. ⌜ r ≡ isWorkingFifo f (now (memory .entry)) ⌝ }
 {
     if (memory.len() == 512) & (f.held <= 512) {
         (f.ovf <= 1) & ((f.ovf != 1) | (f.held == 512)) & are_zero(memory, f.held as usize)

@@ -17,10 +17,10 @@ use Rattle.ports.specs.Ports.{driven, levels}
 use Rattle.ports.specs.declared.Port.{Port}
 use Rattle.ports.specs.declared.Port.the-variants.{PortA, PortB, PortC}
 use Rattle.ports.specs.declared.Ports.{Ports}
-use Rattle.calibration.specs.Registers.{calbusy}
-use Rattle.calibration.specs.declared.Calibration.{Calibration}
-use Rattle.machine.specs.View.{doutPins}
-use Rattle.machine.specs.declared.Board.{Board}
+use Rattle.calibration_registers.specs.Registers.{calbusy}
+use Rattle.calibration_registers.specs.declared.Calibration.{Calibration}
+use Rattle.machine_record.specs.View.{doutPins}
+use Rattle.machine_record.specs.declared.Board.{Board}
 
 abbrev pub differ : ℕ → ℕ → Bool
 differ before after = not (eqb before after)

@@ -1,7 +1,7 @@
 // What a host has to act on: specs/Due.antt.
 use calibration::Calibration;
 use converter::channels::Converter;
-use machine::Board;
+use machine_record::Board;
 use outputs::Codes;
 use ports::Port;
 use ports::Ports;
@@ -24,7 +24,10 @@ fn signs_of(before: Board, after: Board) -> u8
     base::weight(irq(after), 1)
         + base::weight(after.converter.converting == 1, 2)
         + base::weight(calibration::is_busy(after.calibration), 4)
-        + base::weight(machine::dout_pins(before) != machine::dout_pins(after), 8)
+        + base::weight(
+            machine_record::dout_pins(before) != machine_record::dout_pins(after),
+            8,
+        )
 }
 
 // Which outputs put out another code.

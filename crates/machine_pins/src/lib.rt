@@ -1,17 +1,17 @@
 // The DIN pins: specs/Pins.antt, where the Latch pin and the port pins are defined too.
-use machine::Board;
+use machine_record::Board;
 use timer::Select;
 ghost use mathlib.Core.Path.{_≡_};
 ghost use Rattle.machine_pins.specs.Pins.{fellFrom, dinMoved, din0Clocked, triggersStopped, din3Triggered, dinSet};
 
 fn has_fallen_0(was: u8, is: u8) -> bool
-    ensures { λ r. ⌜ r ≡ fellFrom was is 1 ⌝ }
+    ensures { λ r. ⌜ r ≡ fellFrom was is 0 ⌝ }
 {
     (was / 1 % 2 == 1) & !(is / 1 % 2 == 1)
 }
 
 fn has_fallen_3(was: u8, is: u8) -> bool
-    ensures { λ r. ⌜ r ≡ fellFrom was is 8 ⌝ }
+    ensures { λ r. ⌜ r ≡ fellFrom was is 3 ⌝ }
 {
     (was / 8 % 2 == 1) & !(is / 8 % 2 == 1)
 }
@@ -34,7 +34,7 @@ fn clock_din_0(b: Board, fallen: bool) -> Board
     ensures { λ r. ⌜ r ≡ din0Clocked b fallen ⌝ }
 {
     let pulse = (b.registers.counting / 2 % 2 == 1) & fallen;
-    machine_clock::turn(
+    machine_clock::move_timer(
         b,
         timer::clock_if(
             b.clocks.timer,
@@ -56,10 +56,9 @@ fn trigger_din_3(b: Board, fallen: bool) -> Board
 {
     let stopped = are_triggers_stopped(b);
     let mut c = b;
-    c.converter = converter::channels::clock_trigger(
+    c.converter = converter::channels::external_trigger(
         b.converter,
         b.requests.clksel == 1,
-        false,
         fallen,
         stopped,
     );

@@ -10,14 +10,14 @@ use Rattle.base.specs.Laws.{by-choice}
 use Rattle.converter.specs.Working as converter
 use Rattle.outputs.specs.Working.{WorkingOutputs}
 use Rattle.outputs.specs.Laws as outputs
-use Rattle.timer.specs.Kept.{gates-working}
+use Rattle.timer.specs.Kept.{gates-works}
 use Rattle.ports.specs.Laws as ports
-use Rattle.calibration.specs.Laws as calibration
+use Rattle.calibration_registers.specs.Laws as calibration
 use Rattle.machine_clock.specs.Clock.{gates, gatesAt}
 use Rattle.machine_reset.specs.Reset.{boardReset, requestsCleared, pageSet, isReset, miscWritten}
-use Rattle.machine.specs.Working.{WorkingMachine}
-use Rattle.machine.specs.declared.Board.{Board}
-use Rattle.machine.specs.Kept.{registers-kept, calibration-kept, same-working}
+use Rattle.machine_record.specs.Working.{WorkingMachine}
+use Rattle.machine_record.specs.declared.Board.{Board}
+use Rattle.machine_record.specs.Kept.{registers-kept, calibration-kept, same-working}
 use Rattle.machine_clock.specs.Kept.{timer-kept}
 
 pub reset-works : (b : Board) (analog : Bool) → WorkingMachine b → WorkingMachine (boardReset b analog)
@@ -27,7 +27,7 @@ reset-works b analog w = record {
   requests = requests.fresh-works;
   registers = record { page = omega arith; dout = omega arith; range = omega arith };
   outputs = by-choice WorkingOutputs analog (outputs.reset-a-works (on (b .wiring .zeroscale))) (outputs.reset-d-works (b .outputs) (w .outputs));
-  clocks = timer-kept (b .clocks) _ (w .clocks) (gates-working _ (gates b) (gatesAt 0 (b .pins .din)) (w .clocks .timer));
+  clocks = timer-kept (b .clocks) _ (w .clocks) (gates-works _ (gates b) (gatesAt 0 (b .pins .din)) (w .clocks .timer));
   ports = ports.reset-works (b .ports);
   calibration = calibration.reset-works (b .calibration);
   din = w .din;
@@ -50,5 +50,5 @@ page-works b v w =
 pub misc-works : (b : Board) (v : ℕ) → WorkingMachine b → WorkingMachine (miscWritten b v)
 unfolding miscWritten
 misc-works b v w =
-    by-choice WorkingMachine (isReset v) (reset-works b (bit v 32) w)
-    (by-choice WorkingMachine (bit v 8) (cleared-works b w) (page-works b v w))
+    by-choice WorkingMachine (isReset v) (reset-works b (bit v 5) w)
+    (by-choice WorkingMachine (bit v 3) (cleared-works b w) (page-works b v w))

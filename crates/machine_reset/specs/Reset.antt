@@ -12,12 +12,12 @@ use Rattle.outputs.specs.Outputs.{resetA, resetD}
 use Rattle.outputs.specs.declared.Outputs.{Outputs}
 use Rattle.timer.specs.Timer.{gatesMoved}
 use Rattle.ports.specs.Ports.{resetPorts}
-use Rattle.calibration.specs.Registers.{keyForgotten, resetCalibration}
-use Rattle.machine.specs.Parts.{withRequests, withRegisters, withCalibration}
-use Rattle.machine.specs.Fresh.{freshRegisters}
+use Rattle.calibration_registers.specs.Registers.{keyForgotten, resetCalibration}
+use Rattle.machine_record.specs.Parts.{withRequests, withRegisters, withCalibration}
+use Rattle.machine_record.specs.Fresh.{freshRegisters}
 use Rattle.machine_clock.specs.Clock.{gates, gatesAt, withTimer}
-use Rattle.machine.specs.declared.Registers.{Registers}
-use Rattle.machine.specs.declared.Board.{Board}
+use Rattle.machine_record.specs.declared.Registers.{Registers}
+use Rattle.machine_record.specs.declared.Board.{Board}
 
 -- "RESETA also sets outputs to 2048, or 0 by jumper"
 abbrev pub outputsReset : Outputs → Bool → Bool → Outputs
@@ -52,11 +52,11 @@ unfoldable pub pageSet : Board → ℕ → Board
 pageSet b v = withCalibration (withRegisters b (withPage (b .registers) (v % 4))) (keyForgotten (b .calibration))
 
 abbrev pub isReset : ℕ → Bool
-isReset v = bit v 32 || bit v 16
+isReset v = bit v 5 || bit v 4
 
 -- "If both, RESETA"; "Reset beats INTRST"
 unfoldable pub miscWritten : Board → ℕ → Board
 miscWritten b v =
-    if isReset v then boardReset b (bit v 32)
-    else if bit v 8 then requestsCleared b
+    if isReset v then boardReset b (bit v 5)
+    else if bit v 3 then requestsCleared b
     else pageSet b v

@@ -1,5 +1,5 @@
 // Resets by Base+8: specs/Reset.antt, where INTRST and the page are defined too.
-use machine::Board;
+use machine_record::Board;
 use outputs::Outputs;
 ghost use mathlib.Core.Path.{_≡_};
 ghost use Rattle.machine_reset.specs.Reset.{outputsReset, boardReset, isReset};
@@ -26,7 +26,7 @@ pub fn reset_board(b: Board, analog: bool) -> Board
     let mut c = b;
     c.converter = converter::channels::fresh_converter();
     c.requests = requests::fresh_requests();
-    c.registers = machine::fresh_registers();
+    c.registers = machine_record::fresh_registers();
     c.outputs = reset_outputs(b.outputs, analog, b.wiring.zeroscale == 1);
     c.clocks = machine_clock::put_timer(b.clocks, t);
     c.ports = ports::reset(b.ports);

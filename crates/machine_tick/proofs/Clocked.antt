@@ -3,13 +3,13 @@ use Prim.Native.Nat.{ℕ}
 use mathlib.Core.Path.{_≡_, refl, sym, ap, _∙_}
 use mathlib.Core.Bool.{Bool, true, false}
 use Rattle.base.specs.Flags.{on}
-use Rattle.counting.specs.Counter.{pulsed}
-use Rattle.counting.specs.declared.Counter.{Counter}
-use Rattle.timer.specs.Timer.{out, fell}
-use Rattle.timer.specs.Edges.{no-fall}
+use Rattle.counter_one.specs.Counter.{pulsed}
+use Rattle.counter_one.specs.declared.Counter.{Counter}
+use Rattle.counter_one.specs.Falls.{fell, no-fall}
+use Rattle.timer.specs.Timer.{out}
 use Rattle.timer.specs.declared.Gates.{Gates}
 use Rattle.timer.specs.declared.Select.the-variants.{Counter1}
-use Rattle.machine.specs.declared.Clocks.{Clocks}
+use Rattle.machine_record.specs.declared.Clocks.{Clocks}
 use Rattle.machine_tick.specs.Tick.{clock0, clock1, nextTick}
 use Rattle.machine_tick.specs.InPlace.{pulsedIf, clocksTicked}
 
@@ -25,7 +25,8 @@ module _ (l : Clocks) (c : ℕ) (g : Gates) {h th : ℕ} {p0 p1 : Bool} {k0 : Co
   unfolding clocksTicked
   rests j = rw (clocks j, no-fall (out (l .timer) Counter1), k0≡, p0≡, th≡, h≡)
 
-  module _ {k1 : Counter} {f : Bool} (j : p1 ≡ true) (k1≡ : k1 ≡ pulsed (l .timer .counter1) (g .gate12)) (f≡ : f ≡ fell (out (l .timer) Counter1) (on (k1 .count .out))) where
+  module _ {k1 : Counter} {f : Bool} (j : p1 ≡ true) (k1≡ : k1 ≡ pulsed (l .timer .counter1) (g .gate12))
+      (f≡ : f ≡ fell (out (l .timer) Counter1) (on (k1 .count .out))) where
     fallen : {t : Bool} → f ≡ t → fell (out (l .timer) Counter1) (on (pulsed (l .timer .counter1) (g .gate12) .count .out)) ≡ t
     fallen t = ap (λ (x : Counter). fell (out (l .timer) Counter1) (on (x .count .out))) (sym k1≡) ∙ sym f≡ ∙ t
 

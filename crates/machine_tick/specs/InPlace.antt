@@ -4,22 +4,22 @@ use mathlib.Core.Path.{_≡_, refl, ap, _∙_}
 use mathlib.Core.Bool.{Bool, true, false, not, _&&_, _||_}
 use Rattle.base.specs.Choice.{if_then_else_}
 use Rattle.base.specs.Flags.{on, flag, flag-on, flag-le}
-use Rattle.converter.specs.Channels.{clockTriggered}
+use Rattle.converter.specs.Channels.{internalTriggered}
 use Rattle.converter.specs.declared.channels.Converter.{Converter}
 use Rattle.requests.specs.Requests.{withFlags, askedTimer}
 use Rattle.requests.specs.declared.Requests.{Requests}
-use Rattle.counting.specs.Counter.{pulsed}
-use Rattle.counting.specs.declared.Counter.{Counter}
+use Rattle.counter_one.specs.Counter.{pulsed}
+use Rattle.counter_one.specs.declared.Counter.{Counter}
 use Rattle.outputs.specs.Outputs as outputs
-use Rattle.timer.specs.Timer.{out, fell, put, moved, clockedIf}
-use Rattle.timer.specs.Edges.{no-fall}
+use Rattle.counter_one.specs.Falls.{fell, no-fall}
+use Rattle.timer.specs.Timer.{out, put, moved, clockedIf}
 use Rattle.timer.specs.declared.Timer.{Timer}
 use Rattle.timer.specs.declared.Gates.{Gates}
 use Rattle.timer.specs.declared.Select.the-variants.{Counter0, Counter1, Counter2}
-use Rattle.machine.specs.Parts.{withConverter, withRequests, withClocks}
-use Rattle.machine.specs.declared.Clocks.{Clocks}
-use Rattle.machine.specs.declared.Board.{Board}
-use Rattle.machine_clock.specs.Clock.{gates, withTimer, turned}
+use Rattle.machine_record.specs.Parts.{withConverter, withRequests, withClocks}
+use Rattle.machine_record.specs.declared.Clocks.{Clocks}
+use Rattle.machine_record.specs.declared.Board.{Board}
+use Rattle.machine_clock.specs.Clock.{gates, withTimer, timerMoved}
 use Rattle.machine_tick.specs.Tick.{clock0, clock1, nextTick, dividersTicked, counter0Ticked, counter1Ticked, outputsTicked, ticked}
 
 -- ---- the counters and the dividers after a tick, by the byte of Base+10 and the gates
@@ -52,7 +52,7 @@ falls2 was is = fell (out (was .timer) Counter2) (out (is .timer) Counter2)
 -- ---- the whole tick, of a board whose clocks become l
 abbrev pub broughtBy : Board → Clocks → Board
 broughtBy b l = record {
-  converter = clockTriggered (b .converter) (on (b .requests .clksel)) (falls2 (b .clocks) l) false false;
+  converter = internalTriggered (b .converter) (on (b .requests .clksel)) (falls2 (b .clocks) l);
   requests = askedTimer (b .requests) (falls0 (b .clocks) l);
   fifo = b .fifo;
   registers = b .registers;
@@ -65,16 +65,18 @@ broughtBy b l = record {
 }
 
 -- ---- no edge, no trigger and no request
-pub no-edge : (c : Converter) (a s : Bool) → a ≡ false → clockTriggered c s a false false ≡ c
+pub no-edge : (c : Converter) (a s : Bool) → a ≡ false → internalTriggered c s a ≡ c
 no-edge c a s h = rw (h, by (on (c .clken)) s)
   where
-    by : (k s : Bool) → k && (s && false || not s && false && not false) ≡ false
+    by : (k s : Bool) → k && s && false ≡ false
     by true true = refl
     by true false = refl
     by false s = refl
 
 pub no-ask : (r : Requests) (a : Bool) → r .flags .tint ≤ 1 → a ≡ false → askedTimer r a ≡ r
-no-ask r a w h = ap (λ (x : ℕ). withFlags r (record { adint = r .flags .adint; dint = r .flags .dint; tint = x })) (rw h (by (on (r .flags .tint)) (on (r .tinte)) (flag-on _ w)))
+no-ask r a w h =
+    ap (λ (x : ℕ). withFlags r (record { adint = r .flags .adint; dint = r .flags .dint; tint = x }))
+    (rw h (by (on (r .flags .tint)) (on (r .tinte)) (flag-on _ w)))
   where
     by : (t e : Bool) {n : ℕ} → flag t ≡ n → flag (t || e && false) ≡ n
     by true e h = h
@@ -106,19 +108,24 @@ timer1 t g true = falls t g (pulsed (t .counter1) (g .gate12)) (fell (out t Coun
 timer1 t g false = rw (no-fall (out t Counter1))
 
 turned0 : (b : Board) (k : Counter)
-    → turned b (put (b .clocks .timer) Counter0 k)
-    ≡ withRequests (withClocks b (withTimer (b .clocks) (put (b .clocks .timer) Counter0 k))) (askedTimer (b .requests) (fell (out (b .clocks .timer) Counter0) (on (k .count .out))))
-unfolding turned
+    → timerMoved b (put (b .clocks .timer) Counter0 k)
+    ≡ withRequests (withClocks b (withTimer (b .clocks) (put (b .clocks .timer) Counter0 k)))
+    (askedTimer (b .requests) (fell (out (b .clocks .timer) Counter0) (on (k .count .out))))
+unfolding timerMoved
 turned0 b k =
-    ap (λ (c : Converter). withConverter (withRequests (withClocks b (withTimer (b .clocks) (put (b .clocks .timer) Counter0 k))) (askedTimer (b .requests) (fell (out (b .clocks .timer) Counter0) (on (k .count .out))))) c)
+    ap (λ (c : Converter). withConverter
+    (withRequests (withClocks b (withTimer (b .clocks) (put (b .clocks .timer) Counter0 k)))
+    (askedTimer (b .requests) (fell (out (b .clocks .timer) Counter0) (on (k .count .out))))) c)
     (no-edge (b .converter) _ (on (b .requests .clksel)) (no-fall (out (b .clocks .timer) Counter2)))
 
 turned1 : (b : Board) (t : Timer) → b .requests .flags .tint ≤ 1 → t .counter0 ≡ b .clocks .timer .counter0
-    → turned b t
-    ≡ withConverter (withClocks b (withTimer (b .clocks) t)) (clockTriggered (b .converter) (on (b .requests .clksel)) (fell (out (b .clocks .timer) Counter2) (out t Counter2)) false false)
-unfolding turned
+    → timerMoved b t
+    ≡ withConverter (withClocks b (withTimer (b .clocks) t))
+    (internalTriggered (b .converter) (on (b .requests .clksel)) (fell (out (b .clocks .timer) Counter2) (out t Counter2)))
+unfolding timerMoved
 turned1 b t w h =
-    ap (λ (r : Requests). withConverter (withRequests (withClocks b (withTimer (b .clocks) t)) r) (clockTriggered (b .converter) (on (b .requests .clksel)) (fell (out (b .clocks .timer) Counter2) (out t Counter2)) false false))
+    ap (λ (r : Requests). withConverter (withRequests (withClocks b (withTimer (b .clocks) t)) r)
+    (internalTriggered (b .converter) (on (b .requests .clksel)) (fell (out (b .clocks .timer) Counter2) (out t Counter2))))
     (no-ask (b .requests) _ w (rw h (no-fall (out (b .clocks .timer) Counter0))))
 
 -- ---- counter 0, then counter 1
@@ -130,15 +137,17 @@ clocked1 b = chain (b .clocks .timer) (gates b) (pulsedIf (clock1 (b .registers 
 
 step0 : (b : Board)
     → counter0Ticked b
-    ≡ withRequests (withClocks b (withTimer (b .clocks) (put (b .clocks .timer) Counter0 (clocked0 b)))) (askedTimer (b .requests) (fell (out (b .clocks .timer) Counter0) (on (clocked0 b .count .out))))
+    ≡ withRequests (withClocks b (withTimer (b .clocks) (put (b .clocks .timer) Counter0 (clocked0 b))))
+    (askedTimer (b .requests) (fell (out (b .clocks .timer) Counter0) (on (clocked0 b .count .out))))
 unfolding counter0Ticked
-step0 b = ap (turned b) (timer0 (b .clocks .timer) (gates b) (clock0 (b .registers .counting) (b .clocks .thousand))) ∙ turned0 b (clocked0 b)
+step0 b = ap (timerMoved b) (timer0 (b .clocks .timer) (gates b) (clock0 (b .registers .counting) (b .clocks .thousand))) ∙ turned0 b (clocked0 b)
 
 step1 : (b : Board) → b .requests .flags .tint ≤ 1
     → counter1Ticked b
-    ≡ withConverter (withClocks b (withTimer (b .clocks) (clocked1 b))) (clockTriggered (b .converter) (on (b .requests .clksel)) (fell (out (b .clocks .timer) Counter2) (out (clocked1 b) Counter2)) false false)
+    ≡ withConverter (withClocks b (withTimer (b .clocks) (clocked1 b)))
+    (internalTriggered (b .converter) (on (b .requests .clksel)) (fell (out (b .clocks .timer) Counter2) (out (clocked1 b) Counter2)))
 unfolding counter1Ticked
-step1 b w = ap (turned b) (timer1 (b .clocks .timer) (gates b) (clock1 (b .registers .counting) (b .clocks .hundred))) ∙ turned1 b (clocked1 b) w refl
+step1 b w = ap (timerMoved b) (timer1 (b .clocks .timer) (gates b) (clock1 (b .registers .counting) (b .clocks .hundred))) ∙ turned1 b (clocked1 b) w refl
 
 asked-le : (r : Requests) (f : Bool) → askedTimer r f .flags .tint ≤ 1
 asked-le r f = flag-le (on (r .flags .tint) || on (r .tinte) && f)
@@ -148,4 +157,5 @@ pub tick-of : (b : Board) → ticked b ≡ broughtBy b (clocksTicked (b .registe
 unfolding ticked outputsTicked dividersTicked clocksTicked
 tick-of b =
     ap (λ (x : Board). outputsTicked (counter1Ticked x)) (step0 (dividersTicked b))
-    ∙ ap outputsTicked (step1 _ (asked-le (b .requests) (fell (out (b .clocks .timer) Counter0) (on (counter0Of (b .registers .counting) (gates b) (b .clocks) .count .out)))))
+    ∙ ap outputsTicked
+    (step1 _ (asked-le (b .requests) (fell (out (b .clocks .timer) Counter0) (on (counter0Of (b .registers .counting) (gates b) (b .clocks) .count .out)))))

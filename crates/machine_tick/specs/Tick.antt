@@ -9,17 +9,17 @@ use Rattle.base.specs.Fields.{bit}
 use Rattle.outputs.specs.Outputs as outputs
 use Rattle.timer.specs.Timer.{clockedIf}
 use Rattle.timer.specs.declared.Select.the-variants.{Counter0, Counter1}
-use Rattle.machine.specs.Parts.{withOutputs, withClocks}
-use Rattle.machine.specs.declared.Board.{Board}
-use Rattle.machine_clock.specs.Clock.{gates, turned}
+use Rattle.machine_record.specs.Parts.{withOutputs, withClocks}
+use Rattle.machine_record.specs.declared.Board.{Board}
+use Rattle.machine_clock.specs.Clock.{gates, timerMoved}
 
 -- ---- the clocks in a tick: counter 0 has 10 MHz or, with FREQ0, 10 kHz, and none with SRC0 = 1; counter 1 has 10 MHz or, with FREQ12, 100 kHz
 -- by the byte of Base+10 and the divider
 abbrev pub clock0 : ℕ → ℕ → Bool
-clock0 counting thousand = not (bit counting 2) && (not (bit counting 64) || eqb thousand 0)
+clock0 counting thousand = not (bit counting 1) && (not (bit counting 6) || eqb thousand 0)
 
 abbrev pub clock1 : ℕ → ℕ → Bool
-clock1 counting hundred = not (bit counting 128) || eqb hundred 0
+clock1 counting hundred = not (bit counting 7) || eqb hundred 0
 
 -- ---- a tick: "counter 0, counter 1, counter 2, then DACBUSY"; "the 100 kHz and 10 kHz dividers run free from power-up and clock on every
 -- 100th and 1,000th tick"
@@ -35,11 +35,11 @@ dividersTicked b =
     })
 
 unfoldable pub counter0Ticked : Board → Board
-counter0Ticked b = turned b (clockedIf (b .clocks .timer) Counter0 (gates b) (clock0 (b .registers .counting) (b .clocks .thousand)))
+counter0Ticked b = timerMoved b (clockedIf (b .clocks .timer) Counter0 (gates b) (clock0 (b .registers .counting) (b .clocks .thousand)))
 
 -- a falling OUT1 clocks counter 2 within it
 unfoldable pub counter1Ticked : Board → Board
-counter1Ticked b = turned b (clockedIf (b .clocks .timer) Counter1 (gates b) (clock1 (b .registers .counting) (b .clocks .hundred)))
+counter1Ticked b = timerMoved b (clockedIf (b .clocks .timer) Counter1 (gates b) (clock1 (b .registers .counting) (b .clocks .hundred)))
 
 unfoldable pub outputsTicked : Board → Board
 outputsTicked b = withOutputs b (outputs.ticked (b .outputs))

@@ -1,10 +1,10 @@
 // The counters and the dividers in a tick of the 10 MHz clock: specs/Tick.antt, specs/InPlace.antt.
-use counting::Counter;
-use machine::Clocks;
+use counter::Counter;
+use machine_record::Clocks;
 use timer::Gates;
 ghost use mathlib.Core.Path.{_≡_};
-ghost use Rattle.counting.specs.Working.{Working};
-ghost use Rattle.machine.specs.Working.{WorkingClocks};
+ghost use Rattle.counter_one.specs.Working.{WorkingCounter};
+ghost use Rattle.machine_record.specs.Working.{WorkingClocks};
 ghost use Rattle.machine_tick.specs.Tick.{clock0, clock1, nextTick};
 ghost use Rattle.machine_tick.specs.InPlace.{pulsedIf, clocksTicked};
 
@@ -31,11 +31,11 @@ pub fn next_tick(n: u16, last: u16) -> u16
 
 // A counter after a CLK pulse, where its clock has one.
 fn pulse_if(k: Counter, gate: bool, clocks: bool) -> Counter
-    requires { ⌜ Working k ⌝ }
+    requires { ⌜ WorkingCounter k ⌝ }
     ensures { λ r. ⌜ r ≡ pulsedIf clocks k gate ⌝ }
 {
     if clocks {
-        counting::pulse_working(k, gate)
+        counter::pulse_working(k, gate)
     } else {
         k
     }
@@ -53,10 +53,10 @@ pub fn tick_clocks(l: Clocks, counting: u8, g: Gates) -> Clocks
     t.counter0 = pulse_if(l.timer.counter0, g.gate0, clocks0);
     if clocks_1(counting, hundred) {
         let was1 = l.timer.counter1.count.out == 1;
-        let k1 = counting::pulse_working(l.timer.counter1, g.gate12);
+        let k1 = counter::pulse_working(l.timer.counter1, g.gate12);
         t.counter1 = k1;
         if timer::has_fallen(was1, k1.count.out == 1) {
-            t.counter2 = counting::pulse_working(l.timer.counter2, g.gate12);
+            t.counter2 = counter::pulse_working(l.timer.counter2, g.gate12);
         }
     }
     Clocks {

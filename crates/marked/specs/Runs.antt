@@ -8,15 +8,15 @@ use lib.ListN.{replicate}
 use Rattle.base.specs.Flags.{on}
 use Rattle.fifo.specs.Queue.{layout}
 use Rattle.fifo.specs.declared.Fifo.{Fifo}
-use Rattle.machine.specs.Fresh.{freshBoard}
-use Rattle.machine.specs.Parts.{withFifo}
-use Rattle.machine.specs.declared.Board.{Board}
-use Rattle.machine.specs.declared.Jumpers.the-variants.{A}
-use Rattle.board_advance.specs.Advances.{State}
-use Rattle.board.specs.Stretches.{answerAt, afterEvent, afterEvents, freshState}
-use Rattle.events.specs.declared.Answer.{Answer}
-use Rattle.events.specs.declared.Event.{Event}
-use Rattle.events.specs.declared.Event.the-variants.{WriteByte, ConversionEnd, Tick}
+use Rattle.machine_record.specs.Fresh.{freshBoard}
+use Rattle.machine_record.specs.Parts.{withFifo}
+use Rattle.machine_record.specs.declared.Board.{Board}
+use Rattle.machine_record.specs.declared.Jumpers.the-variants.{A}
+use Rattle.board_step.specs.States.{State, answerAt, afterEvent}
+use Rattle.board.specs.Stretches.{afterEvents, freshState}
+use Rattle.board_events.specs.declared.Answer.{Answer}
+use Rattle.board_events.specs.declared.Event.{Event}
+use Rattle.board_events.specs.declared.Event.the-variants.{WriteByte, ConversionEnd, Tick}
 use Rattle.collector_settings.specs.declared.Settings.{Settings}
 
 -- a fresh board, jumpers A, mid-scale, with fresh stores; `layout` is the memory that holds these samples, from place 0 on, its free places 0
@@ -36,9 +36,9 @@ answers s [] = []
 answers s (e ∷ es) = answerAt s e ∷ answers (afterEvent s e) es
 
 -- what the record shows after each of some runs, one after another
-abbrev pub shown : {X : Type 0} → (Board → X) → State → List (List Event) → List X
-shown look s [] = []
-shown look s (es ∷ more) = look (afterEvents s es .board) ∷ shown look (afterEvents s es) more
+abbrev pub shownAfter : {X : Type 0} → (Board → X) → State → List (List Event) → List X
+shownAfter look s [] = []
+shownAfter look s (es ∷ more) = look (afterEvents s es .board) ∷ shownAfter look (afterEvents s es) more
 
 abbrev pub OUT0 : Board → Bool
 OUT0 b = on (b .clocks .timer .counter0 .count .out)
@@ -53,20 +53,20 @@ times zero x = []
 times (suc n) x = x ∷ times n x
 
 -- ---- conversions: each begins by a software trigger and ends
-abbrev pub begins : Event
-begins = WriteByte 0 0
+abbrev pub startEvent : Event
+startEvent = WriteByte 0 0
 
-abbrev pub ends : Event
-ends = ConversionEnd (pos 0)
+abbrev pub endEvent : Event
+endEvent = ConversionEnd (pos 0)
 
 unfoldable pub conversions : ℕ → List Event
 conversions zero = []
-conversions (suc n) = begins ∷ ends ∷ conversions n
+conversions (suc n) = startEvent ∷ endEvent ∷ conversions n
 
 -- n of them up to the beginning of each: the first begins; then each time one ends and the next begins
 unfoldable pub beginnings : ℕ → List (List Event)
 beginnings zero = []
-beginnings (suc n) = (begins ∷ []) ∷ times n (ends ∷ begins ∷ [])
+beginnings (suc n) = (startEvent ∷ []) ∷ times n (endEvent ∷ startEvent ∷ [])
 
 -- ---- ticks of the 10 MHz clock, one by one
 abbrev pub eachTick : ℕ → List (List Event)

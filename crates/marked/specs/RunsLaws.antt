@@ -8,17 +8,17 @@ use lib.ListN.{length}
 use Rattle.fifo.specs.Queue.{layout}
 use Rattle.fifo.specs.Queue.Places.{queue-layout, length-layout}
 use Rattle.fifo.specs.Queue.Laws.{queue-clear}
-use Rattle.machine.specs.Fresh.{freshBoard}
-use Rattle.machine.specs.Kept.{fresh-working, same-working}
-use Rattle.machine.specs.declared.Board.{Board}
-use Rattle.machine.specs.declared.Jumpers.the-variants.{A}
-use Rattle.board.specs.Held.{Held, answered, happened, heldIn, step-held}
-use Rattle.events.specs.declared.Answer.{Answer}
-use Rattle.events.specs.declared.Event.{Event}
-use Rattle.board_advance.specs.Advances.{State}
-use Rattle.board.specs.Stretches.{Works, answerAt, afterEvent, afterEvents}
+use Rattle.machine_record.specs.Fresh.{freshBoard}
+use Rattle.machine_record.specs.Kept.{fresh-working, same-working}
+use Rattle.machine_record.specs.declared.Board.{Board}
+use Rattle.machine_record.specs.declared.Jumpers.the-variants.{A}
+use Rattle.board.specs.Held.{Held, heldAnswer, happened, heldIn, step-held}
+use Rattle.board_events.specs.declared.Answer.{Answer}
+use Rattle.board_events.specs.declared.Event.{Event}
+use Rattle.board_step.specs.States.{State, Works, answerAt, afterEvent}
+use Rattle.board.specs.Stretches.{afterEvents}
 use Rattle.board.specs.StretchSteps.{works-on, fresh-state-works}
-use Rattle.marked.specs.Runs.{fresh, fullFifo, full, answers, shown}
+use Rattle.marked.specs.Runs.{fresh, fullFifo, full, answers, shownAfter}
 
 -- ---- both boards work
 pub fresh-works : Works fresh
@@ -50,7 +50,7 @@ heldAfter h (e ∷ es) = heldAfter (happened h e) es
 
 abbrev pub heldAnswers : Held → List Event → List Answer
 heldAnswers h [] = []
-heldAnswers h (e ∷ es) = answered h e ∷ heldAnswers (happened h e) es
+heldAnswers h (e ∷ es) = heldAnswer h e ∷ heldAnswers (happened h e) es
 
 abbrev pub heldShown : {X : Type 0} → (Board → X) → Held → List (List Event) → List X
 heldShown look h [] = []
@@ -76,16 +76,16 @@ events-hold s h (e ∷ es) k = events-hold (afterEvent s e) (happened h e) es (e
 pub board-held : (s : State) (h : Held) → Holds s h → s .board ≡ h .board
 board-held s h k = ap (λ (x : Held). x .board) (k .held)
 
-pub answer-held : (s : State) (h : Held) (e : Event) → Holds s h → answerAt s e ≡ answered h e
+pub answer-held : (s : State) (h : Held) (e : Event) → Holds s h → answerAt s e ≡ heldAnswer h e
 answer-held s h e k =
-    step-held (s .board) (s .memory) (s .eeprom) e (k .works .working) (k .works .long) .answer ∙ ap (λ (x : Held). answered x e) (k .held)
+    step-held (s .board) (s .memory) (s .eeprom) e (k .works .working) (k .works .long) .answer ∙ ap (λ (x : Held). heldAnswer x e) (k .held)
 
 pub answers-held : (s : State) (h : Held) (es : List Event) → Holds s h → answers s es ≡ heldAnswers h es
 answers-held s h [] k = refl
 answers-held s h (e ∷ es) k = rw (answer-held s h e k, answers-held (afterEvent s e) (happened h e) es (event-holds s h e k))
 
 pub shown-held : {X : Type 0} (look : Board → X) (s : State) (h : Held) (ess : List (List Event)) → Holds s h
-    → shown look s ess ≡ heldShown look h ess
+    → shownAfter look s ess ≡ heldShown look h ess
 shown-held look s h [] k = refl
 shown-held look s h (es ∷ more) k =
     let q = events-hold s h es k in

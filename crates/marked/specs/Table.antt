@@ -7,40 +7,38 @@ use lib.IntN.{pos, negsuc, negℤ}
 use lib.Ieee.{fin, round}
 use lib.ListN.{length}
 use lib.Ieee.Exact.{HasValue}
-use Rattle.counting_modes.specs.Control.{command, wordRefused, setupOf}
-use Rattle.counting_element.specs.Element.{countedBy}
-use Rattle.counting.specs.Counter.{commanded, pulsed, gateMoved, counterRead, byteRefused, byteWritten}
+use Rattle.counter_modes.specs.Control.{command, wordRefused, setupOf}
+use Rattle.counter_element.specs.Element.{countedBy}
+use Rattle.counter_one.specs.Counter.{commanded, pulsed, gateMoved, counterRead, byteRefused, byteWritten}
 use Rattle.timer.specs.Timer.{moved, clockedIf, gatesMoved}
-use Rattle.timer_bus.specs.Bus.{controlRefused, controlWritten, countRefused, countWritten, timerRead}
+use Rattle.timer.specs.Bus.{controlWordRefused, controlWordWritten, countRefused, countWritten, timerRead}
 use Rattle.fifo.specs.Samples.{oldestOf, pushed}
 use Rattle.fifo.specs.Queue.{pushedTo, poppedFrom}
 use Rattle.fifo.specs.Flags.{flagBits}
 use Rattle.converter.specs.Channels.{nextChannel}
 use Rattle.converter.specs.Codes.{codeOf}
-use Rattle.machine.specs.declared.Board.{Board}
-use Rattle.machine_clock.specs.Clock.{turned, countingWritten}
+use Rattle.machine_record.specs.declared.Board.{Board}
+use Rattle.machine_clock.specs.Clock.{timerMoved, countingWritten}
 use Rattle.machine_tick.specs.Tick.{dividersTicked, counter0Ticked, counter1Ticked, outputsTicked, ticked}
 use Rattle.machine_reset.specs.Reset.{boardReset, requestsCleared, pageSet, miscWritten}
 use Rattle.bus.specs.Place.{placeOf}
-use Rattle.bus.specs.Effects.{readEffect, writeEffect}
-use Rattle.bus.specs.Read.{byteAt, afterRead}
-use Rattle.bus.specs.Write.{writtenAt}
-use Rattle.bus.specs.Refusals.{writeChecks, readChecks}
+use Rattle.bus.specs.Registers.{writeChecks, writtenAt, writeEffect, readChecks, byteAt, afterRead, readEffect}
 use Rattle.board_step.specs.Act.{acted, eepromActed}
 use Rattle.board_refusal.specs.Refusals.{eventChecks}
 use Rattle.board_step.specs.Step.{ran}
-use Rattle.board.specs.Held.{answered, happened}
-use Rattle.board.specs.Stretches.{Works, afterEvents}
-use Rattle.events.specs.declared.Answer.the-variants.{Done, Byte, Word}
-use Rattle.events.specs.declared.Event.{Event}
-use Rattle.events.specs.declared.Event.the-variants.{WriteByte, ReadByte, ReadWord, ConversionEnd, Tick}
+use Rattle.board.specs.Held.{heldAnswer, happened}
+use Rattle.board_step.specs.States.{Works}
+use Rattle.board.specs.Stretches.{afterEvents}
+use Rattle.board_events.specs.declared.Answer.the-variants.{Done, Byte, Word}
+use Rattle.board_events.specs.declared.Event.{Event}
+use Rattle.board_events.specs.declared.Event.the-variants.{WriteByte, ReadByte, ReadWord, ConversionEnd, Tick}
 use Rattle.volts.specs.declared.Voltage.the-variants.{Volts}
 use Rattle.volts.specs.Volts.{readingOf, voltage}
 use Rattle.codes.specs.Output.{given, refused, outputOf, bytesOf}
 use Rattle.collector_settings.specs.Settings.{startRefusal}
 use Rattle.collector_records.specs.Records.{begun, started}
 use Rattle.collector_records.specs.declared.Started.the-variants.{Begun, NotBegun}
-use Rattle.marked.specs.Runs.{fresh, full, answers, shown, OUT0, channel, times, conversions, beginnings, eachTick, jumpersC}
+use Rattle.marked.specs.Runs.{fresh, full, answers, shownAfter, OUT0, channel, times, conversions, beginnings, eachTick, jumpersC}
 use Rattle.marked.specs.RunsLaws as runs
 
 -- channels low to high are written
@@ -64,10 +62,10 @@ pub record Marked : Type 0 where
   pub case-2-held : (samples : List ℕ) → length samples ≡ 512
       → afterEvents (full samples) (WriteByte 0 0 ∷ ConversionEnd (pos 1) ∷ ReadWord 0 ∷ []) .board .fifo ≡ record { held = 511; ovf = 0 }
   -- 3. Channels 3-5, five conversions: 3,4,5,3,4; selected 5
-  pub case-3 : shown channel (afterEvents fresh (range 3 5)) (beginnings 5) ≡ 3 ∷ 4 ∷ 5 ∷ 3 ∷ 4 ∷ []
+  pub case-3 : shownAfter channel (afterEvents fresh (range 3 5)) (beginnings 5) ≡ 3 ∷ 4 ∷ 5 ∷ 3 ∷ 4 ∷ []
   pub case-3-selected : afterEvents fresh (range 3 5 ++ conversions 5) .board .converter .selected ≡ 5
   -- 4. Low 30, high 1: 30,31,0,1,30
-  pub case-4 : shown channel (afterEvents fresh (range 30 1)) (beginnings 5) ≡ 30 ∷ 31 ∷ 0 ∷ 1 ∷ 30 ∷ []
+  pub case-4 : shownAfter channel (afterEvents fresh (range 30 1)) (beginnings 5) ≡ 30 ∷ 31 ∷ 0 ∷ 1 ∷ 30 ∷ []
   -- 5. Page 1, 8←0B: page 1
   pub case-5 : afterEvents fresh (WriteByte 8 1 ∷ WriteByte 8 0x0B ∷ []) .board .registers .page ≡ 1
   -- 6. Bytes 60, C5: -15008; ±5 V: -2.2900390625. The manual's 17762 is hex 4562, not 4560
@@ -86,9 +84,9 @@ pub record Marked : Type 0 where
   pub case-8-low : outputOf (negℤ (pos 5000000)) 0 ≡ given 0
   pub case-8-below : outputOf (negℤ (pos 5000001)) 0 ≡ refused 18
   -- 9. Counter 0, mode 2, count 3, OUT after ticks: H H L H H L
-  pub case-9 : shown OUT0 (afterEvents fresh (counter0 0x14 3)) (eachTick 6) ≡ true ∷ true ∷ false ∷ true ∷ true ∷ false ∷ []
+  pub case-9 : shownAfter OUT0 (afterEvents fresh (counter0 0x14 3)) (eachTick 6) ≡ true ∷ true ∷ false ∷ true ∷ true ∷ false ∷ []
   -- 10. Counter 0, mode 0, count 2: L L H H; count 65,535 after the fourth
-  pub case-10 : shown OUT0 (afterEvents fresh (counter0 0x10 2)) (eachTick 4) ≡ false ∷ false ∷ true ∷ true ∷ []
+  pub case-10 : shownAfter OUT0 (afterEvents fresh (counter0 0x10 2)) (eachTick 4) ≡ false ∷ false ∷ true ∷ true ∷ []
   pub case-10-count : afterEvents fresh (counter0 0x10 2 ++ times 4 Tick) .board .clocks .timer .counter0 .count .element ≡ 65535
   -- 11. Jumpers C, 8-15 taken; 15-24 refused 12
   pub case-11-taken : started (jumpersC 8 15) ≡ Begun (begun (jumpersC 8 15))
@@ -102,11 +100,15 @@ left : (es : List Event) → afterEvents fresh es .board ≡ runs.heldAfter runs
 left es = runs.board-held _ _ (runs.events-hold fresh runs.freshHeld es runs.fresh-holds)
 
 seen : {X : Type 0} (look : Board → X) (es : List Event) (ess : List (List Event))
-    → shown look (afterEvents fresh es) ess ≡ runs.heldShown look (runs.heldAfter runs.freshHeld es) ess
+    → shownAfter look (afterEvents fresh es) ess ≡ runs.heldShown look (runs.heldAfter runs.freshHeld es) ess
 seen look es ess = runs.shown-held look _ _ ess (runs.events-hold fresh runs.freshHeld es runs.fresh-holds)
 
 pub marked : Marked
-unfolding started startRefusal command wordRefused setupOf countedBy commanded pulsed gateMoved counterRead byteRefused byteWritten moved clockedIf gatesMoved controlRefused controlWritten countRefused countWritten timerRead pushed pushedTo poppedFrom flagBits nextChannel turned dividersTicked counter0Ticked counter1Ticked outputsTicked ticked countingWritten boardReset requestsCleared pageSet miscWritten placeOf byteAt afterRead readEffect writtenAt writeEffect writeChecks readChecks acted eepromActed eventChecks ran answered happened times conversions beginnings round
+unfolding started startRefusal command wordRefused setupOf countedBy commanded pulsed gateMoved counterRead byteRefused byteWritten moved clockedIf gatesMoved
+    controlWordRefused controlWordWritten countRefused countWritten timerRead pushed pushedTo poppedFrom flagBits nextChannel timerMoved dividersTicked
+    counter0Ticked
+    counter1Ticked outputsTicked ticked countingWritten boardReset requestsCleared pageSet miscWritten placeOf byteAt afterRead readEffect writtenAt writeEffect
+    writeChecks readChecks acted eepromActed eventChecks ran heldAnswer happened times conversions beginnings round
 marked =
     record {
       fresh-works = runs.fresh-works;

@@ -2,9 +2,9 @@
 use Prim.Native.Nat.{ℕ, _+_, _*_, _%_, _<_}
 use mathlib.Core.Path.{_≡_, refl, ap, _∙_}
 use native.Mathlib.Omega.{arith}
-use Rattle.events.specs.Answers.{refusalNumber}
-use Rattle.events.specs.declared.Answer.{Answer}
-use Rattle.events.specs.declared.Answer.the-variants.{Done, Byte, Word, Refused}
+use Rattle.board_events.specs.Answers.{refusalNumber}
+use Rattle.board_events.specs.declared.Answer.{Answer}
+use Rattle.board_events.specs.declared.Answer.the-variants.{Done, Byte, Word, Refused}
 use Rattle.board_step.specs.declared.Outcome.{Outcome}
 use Rattle.board_advance.specs.declared.Advanced.{Advanced}
 use Rattle.numbers.specs.declared.Numbered.{Numbered}

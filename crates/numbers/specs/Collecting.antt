@@ -6,7 +6,7 @@ use Rattle.collector_phases.specs.declared.Collector.{Collector}
 use Rattle.base.specs.Choice.{if_then_else_}
 use Rattle.collector_answers.specs.declared.BusAnswer.{BusAnswer}
 use Rattle.collector_answers.specs.declared.BusAnswer.the-variants as bus
-use Rattle.collector_answers.specs.declared.Sample.{Sample}
+use Rattle.samples.specs.declared.Sample.{Sample}
 use Rattle.collector_records.specs.declared.Started.{Started}
 use Rattle.collector_records.specs.declared.Started.the-variants.{Begun, NotBegun}
 use Rattle.collector_phases.specs.declared.Access.{Access}
@@ -14,7 +14,7 @@ use Rattle.collector_phases.specs.declared.Access.the-variants.{WriteByte, Read
 use Rattle.collector_steps.specs.declared.Handed.{Handed}
 use Rattle.collector_steps.specs.declared.Handed.the-variants.{Nothing, StartEnd, OneSample, LastSample, Refused}
 use Rattle.collector_steps.specs.declared.Taken.{Taken}
-use Rattle.collector.specs.Handed.{refusalNumber}
+use Rattle.collector.specs.Handed.{handedRefusal}
 use Rattle.numbers.specs.declared.collecting.StartAnswer.{StartAnswer}
 use Rattle.numbers.specs.declared.collecting.AccessNamed.{AccessNamed}
 use Rattle.numbers.specs.declared.collecting.BusNumbers.{BusNumbers}
@@ -68,6 +68,6 @@ takenAnswer t = record {
   collector = t .collector;
   polls = t .polls;
   handed = kindHanded (t .handed);
-  refusal = refusalNumber (t .handed);
+  refusal = handedRefusal (t .handed);
   sample = sampleHanded (t .handed);
 }

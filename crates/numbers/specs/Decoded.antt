@@ -1,7 +1,7 @@
 -- What a host reads off an answer's number (COWRIESTEP_KIND, COWRIESTEP_REFUSAL, COWRIESTEP_NUMBER of include/cowriestep.h) is the answer that the step
 -- gave: no answer of a step is taken for another. Of the board it is asked only that its record and its sample memory are values of their types,
--- `Recorded` and `Sixteen`, which all are that a host lends or passes; they bound the value. The refusals of a step are 1 to 10, whatever the board. The code's own
--- promise (`number_of`) asks nothing of values: there the types bound them.
+-- `Recorded` and `Sixteen`, which all are that a host lends or passes; they bound the value. The refusals of a step are 1 to 10, whatever the board. The code's
+-- own promise (`number_of`) asks nothing of values: there the types bound them.
 use Prim.Native.Nat.{ℕ, zero, suc, _/_, _%_, _<_}
 use mathlib.Core.Path.{_≡_, refl, sym, ap, _∙_}
 use mathlib.Core.Bool.{Bool, true, false}
@@ -9,24 +9,24 @@ use mathlib.Core.List.{List}
 use native.Mathlib.Omega.{arith}
 use lib.Dec.{eqb}
 use Rattle.base.specs.Choice.{if_then_else_}
-use Rattle.machine.specs.declared.Board.{Board}
-use Rattle.events.specs.Answers.{refusalNumber, valueRead}
-use Rattle.events.specs.declared.Answer.{Answer}
-use Rattle.events.specs.declared.Answer.the-variants.{Done, Byte, Word, Refused}
-use Rattle.events.specs.declared.Event.{Event}
-use Rattle.events.specs.declared.Event.the-variants.{Tick}
+use Rattle.machine_record.specs.declared.Board.{Board}
+use Rattle.board_events.specs.Answers.{refusalNumber, valueRead}
+use Rattle.board_events.specs.declared.Answer.{Answer}
+use Rattle.board_events.specs.declared.Answer.the-variants.{Done, Byte, Word, Refused}
+use Rattle.board_events.specs.declared.Event.{Event}
+use Rattle.board_events.specs.declared.Event.the-variants.{Tick}
 use Rattle.board_step.specs.Step.{number, stepOf, memoryAfter, eepromAfter}
 use Rattle.board_step.specs.Lent.{Stepped}
 use Rattle.board_advance.specs.Advance.{news, advancedFrom, advancedOf}
 use Rattle.board_advance.specs.declared.Advanced.{Advanced}
 use Rattle.board.specs.Answers.{answer-number, valueBrought, answer-value}
 use Rattle.board.specs.Order.{refusal-bound}
-use Rattle.numbers.specs.Packed.{packed, answerNumber, kindIn, refusalIn, valueIn, decoded}
+use Rattle.numbers.specs.Packed.{packed, answerNumber, kindBits, refusalIn, valueIn, decoded}
 use Rattle.numbers.specs.Typed.{Recorded, Sixteen}
 use Rattle.numbers.specs.TypedLaws.{value-below}
 
 -- ---- what was put in comes out
-pub kind-in : (kind refusal value : ℕ) → value < 65536 → kindIn (packed kind refusal value) ≡ kind
+pub kind-in : (kind refusal value : ℕ) → value < 65536 → kindBits (packed kind refusal value) ≡ kind
 kind-in kind refusal value h = omega arith
 
 pub refusal-in : (kind refusal value : ℕ) → value < 65536 → refusalIn (packed kind refusal value) ≡ refusal % 32

@@ -4,8 +4,8 @@ use mathlib.Core.Path.{_≡_, refl}
 use mathlib.Core.Bool.{Bool, true, false}
 use mathlib.Core.List.{List}
 use lib.Dec.{T}
-use Rattle.machine.specs.declared.Board.{Board}
-use Rattle.events.specs.declared.Event.{Event}
+use Rattle.machine_record.specs.declared.Board.{Board}
+use Rattle.board_events.specs.declared.Event.{Event}
 use Rattle.board_stores.specs.Stores.{wrongLengths}
 use Rattle.board_refusal.specs.Refusals.{checks}
 use Rattle.board_step.specs.Step.{stepOf, memoryAfter, eepromAfter, refusedBy}

@@ -3,9 +3,10 @@
 use Prim.Native.Nat.{ℕ, _+_, _*_, _/_, _%_}
 use lib.Dec.{eqb}
 use Rattle.base.specs.Choice.{if_then_else_}
-use Rattle.events.specs.Answers.{refusalNumber, valueRead}
-use Rattle.events.specs.declared.Answer.{Answer}
-use Rattle.events.specs.declared.Answer.the-variants.{Done, Byte, Word, Refused}
+use Rattle.base.specs.Fields.{lowest}
+use Rattle.board_events.specs.Answers.{refusalNumber, valueRead}
+use Rattle.board_events.specs.declared.Answer.{Answer}
+use Rattle.board_events.specs.declared.Answer.the-variants.{Done, Byte, Word, Refused}
 use Rattle.board_step.specs.declared.Outcome.{Outcome}
 use Rattle.board_advance.specs.declared.Progress.{Progress}
 use Rattle.board_advance.specs.declared.Advanced.{Advanced}
@@ -14,7 +15,7 @@ use Rattle.numbers.specs.declared.ProgressNumbered.{ProgressNumbered}
 use Rattle.numbers.specs.declared.AdvancedNumbered.{AdvancedNumbered}
 
 abbrev pub packed : ℕ → ℕ → ℕ → ℕ
-packed kind refusal value = kind * 0x20000000 + refusal % 32 * 0x1000000 + value
+packed kind refusal value = kind * 0x20000000 + lowest 5 refusal * 0x1000000 + value
 
 abbrev pub kindOf : Answer → ℕ
 kindOf Done = 0
@@ -27,8 +28,8 @@ answerNumber a = packed (kindOf a) (refusalNumber a) (valueRead a)
 
 -- ---- what a host reads off it, by the macros of include/cowriestep.h
 -- the kind, bits 31-29; the refusal, bits 28-24; the byte or the word, bits 15-0
-abbrev pub kindIn : ℕ → ℕ
-kindIn n = n / 0x20000000
+abbrev pub kindBits : ℕ → ℕ
+kindBits n = n / 0x20000000
 
 abbrev pub refusalIn : ℕ → ℕ
 refusalIn n = n / 0x1000000 % 32
@@ -39,9 +40,9 @@ valueIn n = n % 65536
 -- the answer of that kind: 0 done, 1 a byte, 2 a word, 3 refused
 abbrev pub decoded : ℕ → Answer
 decoded n =
-    if eqb (kindIn n) 0 then Done
-    else if eqb (kindIn n) 1 then Byte (valueIn n)
-    else if eqb (kindIn n) 2 then Word (valueIn n)
+    if eqb (kindBits n) 0 then Done
+    else if eqb (kindBits n) 1 then Byte (valueIn n)
+    else if eqb (kindBits n) 2 then Word (valueIn n)
     else Refused (refusalIn n)
 
 -- ---- what a step leaves, with its answer as a number

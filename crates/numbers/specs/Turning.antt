@@ -1,6 +1,6 @@
 -- A turn of the collector on a board, in numbers: the board's record, and what the collector answers (the specification, "The collector").
-use Rattle.turns.specs.declared.Turned.{Turned}
-use Rattle.turns.specs.Real.{takenIn}
+use Rattle.archive_turns.specs.declared.Turned.{Turned}
+use Rattle.archive_turns.specs.Real.{takenIn}
 use Rattle.numbers.specs.Collecting.{takenAnswer}
 use Rattle.numbers.specs.declared.TurnNumbered.{TurnNumbered}
 

@@ -5,8 +5,8 @@ use mathlib.Core.List.{List}
 use lib.ListN.{getD}
 use mir.Val.{Val}
 use denote.Laws.{Is}
-use Rattle.machine.specs.declared.Board.{Board}
-use Rattle.machine.proofs.Board as board
+use Rattle.machine_record.specs.declared.Board.{Board}
+use Rattle.machine_record.proofs.Board as board
 
 -- some words of the machine are this record, so that each number of it is within the type of its field: 8 or 16 bits. `Is` relates the values of a type to
 -- the words that hold them; the contracts of all functions speak of their parameters and results by it

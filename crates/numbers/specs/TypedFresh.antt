@@ -11,10 +11,10 @@ use mir.Syntax.{w8}
 use mir.Val.{vint}
 use denote.Laws.{Is}
 use denote.Struct.Laws.{owes, vals}
-use Rattle.counting.specs.Counter.{unprogrammed}
-use Rattle.machine.specs.Fresh.{freshBoard}
-use Rattle.machine.specs.declared.Board.{Board}
-use Rattle.machine.specs.declared.Jumpers.the-variants.{A}
+use Rattle.counter_one.specs.Counter.{unprogrammed}
+use Rattle.machine_record.specs.Fresh.{freshBoard}
+use Rattle.machine_record.specs.declared.Board.{Board}
+use Rattle.machine_record.specs.declared.Jumpers.the-variants.{A}
 use Rattle.fifo.proofs.Fifo as fifo
 use Rattle.fifo.proofs.Fifo.Laws as fifoᴸ
 use Rattle.converter.proofs.channels.Converter as converter
@@ -23,12 +23,12 @@ use Rattle.requests.proofs.Flags as flags
 use Rattle.requests.proofs.Flags.Laws as flagsᴸ
 use Rattle.requests.proofs.Requests as requests
 use Rattle.requests.proofs.Requests.Laws as requestsᴸ
-use Rattle.counting_bytes.proofs.Bus as bus
-use Rattle.counting_bytes.proofs.Bus.Laws as busᴸ
-use Rattle.counting_element.proofs.Count as count
-use Rattle.counting_element.proofs.Count.Laws as countᴸ
-use Rattle.counting.proofs.Counter as counter
-use Rattle.counting.proofs.Counter.Laws as counterᴸ
+use Rattle.counter_bytes.proofs.Bus as bus
+use Rattle.counter_bytes.proofs.Bus.Laws as busᴸ
+use Rattle.counter_element.proofs.Count as count
+use Rattle.counter_element.proofs.Count.Laws as countᴸ
+use Rattle.counter_one.proofs.Counter as counter
+use Rattle.counter_one.proofs.Counter.Laws as counterᴸ
 use Rattle.timer.proofs.Timer as timer
 use Rattle.timer.proofs.Timer.Laws as timerᴸ
 use Rattle.outputs.proofs.Codes as codes
@@ -41,28 +41,46 @@ use Rattle.ports.proofs.Lines as lines
 use Rattle.ports.proofs.Lines.Laws as linesᴸ
 use Rattle.ports.proofs.Ports as ports
 use Rattle.ports.proofs.Ports.Laws as portsᴸ
-use Rattle.calibration.proofs.Calibration as calibration
-use Rattle.calibration.proofs.Calibration.Laws as calibrationᴸ
-use Rattle.machine.proofs.Registers as registers
-use Rattle.machine.proofs.Registers.Laws as registersᴸ
-use Rattle.machine.proofs.Clocks as clocks
-use Rattle.machine.proofs.Clocks.Laws as clocksᴸ
-use Rattle.machine.proofs.Pins as pins
-use Rattle.machine.proofs.Pins.Laws as pinsᴸ
-use Rattle.machine.proofs.Wiring as wiring
-use Rattle.machine.proofs.Wiring.Laws as wiringᴸ
-use Rattle.machine.proofs.Board as board
-use Rattle.machine.proofs.Board.Laws as boardᴸ
+use Rattle.calibration_registers.proofs.Calibration as calibration
+use Rattle.calibration_registers.proofs.Calibration.Laws as calibrationᴸ
+use Rattle.machine_record.proofs.Registers as registers
+use Rattle.machine_record.proofs.Registers.Laws as registersᴸ
+use Rattle.machine_record.proofs.Clocks as clocks
+use Rattle.machine_record.proofs.Clocks.Laws as clocksᴸ
+use Rattle.machine_record.proofs.Pins as pins
+use Rattle.machine_record.proofs.Pins.Laws as pinsᴸ
+use Rattle.machine_record.proofs.Wiring as wiring
+use Rattle.machine_record.proofs.Wiring.Laws as wiringᴸ
+use Rattle.machine_record.proofs.Board as board
+use Rattle.machine_record.proofs.Board.Laws as boardᴸ
 use Rattle.numbers.specs.Typed.{Recorded, Sixteen}
 
 abbrev fresh : Board
 fresh = freshBoard A false
 
 converter-held : Is converter.the-row (fresh .converter) (vals converter.the-type converterᴸ.the-laws (fresh .converter))
-converter-held = owes converter.the-type converterᴸ.the-laws (fresh .converter) ((refl, lit< tt), ((refl, lit< tt), ((refl, lit< tt), ((refl, lit< tt), ((refl, lit< tt), ((refl, lit< tt), ((refl, lit< tt), tt)))))))
+converter-held =
+    owes converter.the-type converterᴸ.the-laws (fresh .converter)
+    ((refl, lit< tt), ((refl, lit< tt), ((refl, lit< tt), ((refl, lit< tt), ((refl, lit< tt), ((refl, lit< tt), ((refl, lit< tt), tt)))))))
 
 requests-held : Is requests.the-row (fresh .requests) (vals requests.the-type requestsᴸ.the-laws (fresh .requests))
-requests-held = owes requests.the-type requestsᴸ.the-laws (fresh .requests) ((refl, lit< tt), ((refl, lit< tt), ((refl, lit< tt), ((refl, lit< tt), ((refl, lit< tt), ((refl, lit< tt), (owes flags.the-type flagsᴸ.the-laws (fresh .requests .flags) ((refl, lit< tt), ((refl, lit< tt), ((refl, lit< tt), tt))), tt)))))))
+requests-held =
+    owes requests.the-type requestsᴸ.the-laws (fresh .requests) (
+      (refl, lit< tt),
+      (
+        (refl, lit< tt),
+        (
+          (refl, lit< tt),
+          (
+            (refl, lit< tt),
+            (
+              (refl, lit< tt),
+              ((refl, lit< tt), (owes flags.the-type flagsᴸ.the-laws (fresh .requests .flags) ((refl, lit< tt), ((refl, lit< tt), ((refl, lit< tt), tt))), tt)),
+            ),
+          ),
+        ),
+      ),
+    )
 
 fifo-held : Is fifo.the-row (fresh .fifo) (vals fifo.the-type fifoᴸ.the-laws (fresh .fifo))
 fifo-held = owes fifo.the-type fifoᴸ.the-laws (fresh .fifo) ((refl, lit< tt), ((refl, lit< tt), tt))
@@ -71,19 +89,78 @@ registers-held : Is registers.the-row (fresh .registers) (vals registers.the-typ
 registers-held = owes registers.the-type registersᴸ.the-laws (fresh .registers) ((refl, lit< tt), ((refl, lit< tt), ((refl, lit< tt), ((refl, lit< tt), tt))))
 
 outputs-held : Is outputs.the-row (fresh .outputs) (vals outputs.the-type outputsᴸ.the-laws (fresh .outputs))
-outputs-held = owes outputs.the-type outputsᴸ.the-laws (fresh .outputs) (owes codes.the-type codesᴸ.the-laws (fresh .outputs .codes) ((refl, lit< tt), ((refl, lit< tt), ((refl, lit< tt), ((refl, lit< tt), tt)))), (owes load.the-type loadᴸ.the-laws (fresh .outputs .load) ((refl, lit< tt), ((refl, lit< tt), ((refl, lit< tt), tt))), ((refl, lit< tt), ((refl, lit< tt), tt))))
+outputs-held =
+    owes outputs.the-type outputsᴸ.the-laws (fresh .outputs) (
+      owes codes.the-type codesᴸ.the-laws (fresh .outputs .codes) ((refl, lit< tt), ((refl, lit< tt), ((refl, lit< tt), ((refl, lit< tt), tt)))),
+      (
+        owes load.the-type loadᴸ.the-laws (fresh .outputs .load) ((refl, lit< tt), ((refl, lit< tt), ((refl, lit< tt), tt))),
+        ((refl, lit< tt), ((refl, lit< tt), tt)),
+      ),
+    )
 
 counter-held : Is counter.the-row (unprogrammed) (vals counter.the-type counterᴸ.the-laws (unprogrammed))
-counter-held = owes counter.the-type counterᴸ.the-laws (unprogrammed) ((refl, lit< tt), ((refl, lit< tt), (owes count.the-type countᴸ.the-laws (unprogrammed .count) ((refl, lit< tt), ((refl, lit< tt), ((refl, lit< tt), ((refl, lit< tt), ((refl, lit< tt), tt))))), (owes bus.the-type busᴸ.the-laws (unprogrammed .bus) ((refl, lit< tt), ((refl, lit< tt), ((refl, lit< tt), ((refl, lit< tt), ((refl, lit< tt), tt))))), tt))))
+counter-held =
+    owes counter.the-type counterᴸ.the-laws (unprogrammed) (
+      (refl, lit< tt),
+      (
+        (refl, lit< tt),
+        (
+          owes count.the-type countᴸ.the-laws (unprogrammed .count)
+              ((refl, lit< tt), ((refl, lit< tt), ((refl, lit< tt), ((refl, lit< tt), ((refl, lit< tt), tt))))),
+          (
+            owes bus.the-type busᴸ.the-laws (unprogrammed .bus)
+                ((refl, lit< tt), ((refl, lit< tt), ((refl, lit< tt), ((refl, lit< tt), ((refl, lit< tt), tt))))),
+            tt,
+          ),
+        ),
+      ),
+    )
 
 clocks-held : Is clocks.the-row (fresh .clocks) (vals clocks.the-type clocksᴸ.the-laws (fresh .clocks))
-clocks-held = owes clocks.the-type clocksᴸ.the-laws (fresh .clocks) (owes timer.the-type timerᴸ.the-laws (fresh .clocks .timer) (counter-held, (counter-held, (counter-held, tt))), ((refl, lit< tt), ((refl, lit< tt), tt)))
+clocks-held =
+    owes clocks.the-type clocksᴸ.the-laws (fresh .clocks)
+    (owes timer.the-type timerᴸ.the-laws (fresh .clocks .timer) (counter-held, (counter-held, (counter-held, tt))), ((refl, lit< tt), ((refl, lit< tt), tt)))
 
 ports-held : Is ports.the-row (fresh .ports) (vals ports.the-type portsᴸ.the-laws (fresh .ports))
-ports-held = owes ports.the-type portsᴸ.the-laws (fresh .ports) ((refl, lit< tt), (owes lines.the-type linesᴸ.the-laws (fresh .ports .latches) ((refl, lit< tt), ((refl, lit< tt), ((refl, lit< tt), tt))), (owes lines.the-type linesᴸ.the-laws (fresh .ports .pins) ((refl, lit< tt), ((refl, lit< tt), ((refl, lit< tt), tt))), tt)))
+ports-held =
+    owes ports.the-type portsᴸ.the-laws (fresh .ports) (
+      (refl, lit< tt),
+      (
+        owes lines.the-type linesᴸ.the-laws (fresh .ports .latches) ((refl, lit< tt), ((refl, lit< tt), ((refl, lit< tt), tt))),
+        (owes lines.the-type linesᴸ.the-laws (fresh .ports .pins) ((refl, lit< tt), ((refl, lit< tt), ((refl, lit< tt), tt))), tt),
+      ),
+    )
 
 calibration-held : Is calibration.the-row (fresh .calibration) (vals calibration.the-type calibrationᴸ.the-laws (fresh .calibration))
-calibration-held = owes calibration.the-type calibrationᴸ.the-laws (fresh .calibration) ((refl, lit< tt), ((refl, lit< tt), ((refl, lit< tt), ((refl, lit< tt), ((refl, lit< tt), ((vint w8 0 ∷ vint w8 0 ∷ vint w8 0 ∷ vint w8 0 ∷ vint w8 0 ∷ vint w8 0 ∷ vint w8 0 ∷ vint w8 0 ∷ [], ((refl, refl), ((refl, lit< tt), ((refl, lit< tt), ((refl, lit< tt), ((refl, lit< tt), ((refl, lit< tt), ((refl, lit< tt), ((refl, lit< tt), ((refl, lit< tt), tt)))))))))), tt))))))
+calibration-held =
+    owes calibration.the-type calibrationᴸ.the-laws (fresh .calibration) (
+      (refl, lit< tt),
+      (
+        (refl, lit< tt),
+        (
+          (refl, lit< tt),
+          (
+            (refl, lit< tt),
+            (
+              (refl, lit< tt),
+              (
+                (
+                  vint w8 0 ∷ vint w8 0 ∷ vint w8 0 ∷ vint w8 0 ∷ vint w8 0 ∷ vint w8 0 ∷ vint w8 0 ∷ vint w8 0 ∷ [],
+                  (
+                    (refl, refl),
+                    (
+                      (refl, lit< tt),
+                      ((refl, lit< tt), ((refl, lit< tt), ((refl, lit< tt), ((refl, lit< tt), ((refl, lit< tt), ((refl, lit< tt), ((refl, lit< tt), tt))))))),
+                    ),
+                  ),
+                ),
+                tt,
+              ),
+            ),
+          ),
+        ),
+      ),
+    )
 
 pins-held : Is pins.the-row (fresh .pins) (vals pins.the-type pinsᴸ.the-laws (fresh .pins))
 pins-held = owes pins.the-type pinsᴸ.the-laws (fresh .pins) ((refl, lit< tt), ((refl, lit< tt), tt))
@@ -92,7 +169,15 @@ wiring-held : Is wiring.the-row (fresh .wiring) (vals wiring.the-type wiringᴸ.
 wiring-held = owes wiring.the-type wiringᴸ.the-laws (fresh .wiring) ((refl, lit< tt), ((refl, lit< tt), tt))
 
 pub fresh-recorded : Recorded fresh
-fresh-recorded = record { words = vals board.the-type boardᴸ.the-laws fresh; held = owes board.the-type boardᴸ.the-laws fresh (converter-held, (requests-held, (fifo-held, (registers-held, (outputs-held, (clocks-held, (ports-held, (calibration-held, (pins-held, (wiring-held, tt)))))))))) }
+fresh-recorded =
+    record {
+      words = vals board.the-type boardᴸ.the-laws fresh;
+      held =
+          owes board.the-type boardᴸ.the-laws fresh (
+            converter-held,
+            (requests-held, (fifo-held, (registers-held, (outputs-held, (clocks-held, (ports-held, (calibration-held, (pins-held, (wiring-held, tt))))))))),
+          );
+    }
 
 pub zeros-sixteen : (n : ℕ) → Sixteen (replicate n 0)
 zeros-sixteen zero i = omega arith

@@ -24,25 +24,25 @@ use Rattle.converter.proofs.channels.Converter.Laws as converterᴸ
 use Rattle.requests.specs.Bytes.{mode-fits}
 use Rattle.requests.proofs.Requests as requests
 use Rattle.requests.proofs.Requests.Laws as requestsᴸ
-use Rattle.counting_modes.specs.declared.Setup.{Setup}
-use Rattle.counting_modes.specs.declared.Setup.the-variants.{Unprogrammed, Programmed}
-use Rattle.counting_modes.specs.declared.Format.{Format}
-use Rattle.counting_modes.specs.declared.Format.the-variants.{LeastByte, MostByte, TwoBytes}
-use Rattle.counting_modes.specs.Control.{setupOf}
-use Rattle.counting_bytes.specs.Bytes.{byteShown, shown}
-use Rattle.counting_bytes.specs.declared.Bus.{Bus}
-use Rattle.counting_bytes.proofs.Bus as bus
-use Rattle.counting_bytes.proofs.Bus.Laws as busᴸ
-use Rattle.counting_element.proofs.Count as count
-use Rattle.counting_element.proofs.Count.Laws as countᴸ
-use Rattle.counting.specs.Counter.{counterReadAs, counterRead}
-use Rattle.counting.specs.declared.Counter.{Counter}
-use Rattle.counting.proofs.Counter as counter
-use Rattle.counting.proofs.Counter.Laws as counterᴸ
+use Rattle.counter_modes.specs.declared.Setup.{Setup}
+use Rattle.counter_modes.specs.declared.Setup.the-variants.{Unprogrammed, Programmed}
+use Rattle.counter_modes.specs.declared.Format.{Format}
+use Rattle.counter_modes.specs.declared.Format.the-variants.{LeastByte, MostByte, TwoBytes}
+use Rattle.counter_modes.specs.Control.{setupOf}
+use Rattle.counter_bytes.specs.Bytes.{byteShown, shown}
+use Rattle.counter_bytes.specs.declared.Bus.{Bus}
+use Rattle.counter_bytes.proofs.Bus as bus
+use Rattle.counter_bytes.proofs.Bus.Laws as busᴸ
+use Rattle.counter_element.proofs.Count as count
+use Rattle.counter_element.proofs.Count.Laws as countᴸ
+use Rattle.counter_one.specs.Counter.{counterReadAs, counterRead}
+use Rattle.counter_one.specs.declared.Counter.{Counter}
+use Rattle.counter_one.proofs.Counter as counter
+use Rattle.counter_one.proofs.Counter.Laws as counterᴸ
 use Rattle.timer.specs.declared.Timer.{Timer}
 use Rattle.timer.specs.declared.Select.{Select}
 use Rattle.timer.specs.declared.Select.the-variants.{Counter0, Counter1, Counter2}
-use Rattle.timer_bus.specs.Bus.{timerRead}
+use Rattle.timer.specs.Bus.{timerRead}
 use Rattle.timer.proofs.Timer as timer
 use Rattle.timer.proofs.Timer.Laws as timerᴸ
 use Rattle.ports.specs.Ports.{lineOf, portRead, highInput, lowInput, joined}
@@ -54,29 +54,29 @@ use Rattle.ports.proofs.Lines as lines
 use Rattle.ports.proofs.Lines.Laws as linesᴸ
 use Rattle.ports.proofs.Ports as ports
 use Rattle.ports.proofs.Ports.Laws as portsᴸ
-use Rattle.calibration.specs.Registers.{calbusy, tdbusy, eebusy}
-use Rattle.calibration.proofs.Calibration as calibration
-use Rattle.calibration.proofs.Calibration.Laws as calibrationᴸ
+use Rattle.calibration_registers.specs.Registers.{calbusy, tdbusy, eebusy}
+use Rattle.calibration_registers.proofs.Calibration as calibration
+use Rattle.calibration_registers.proofs.Calibration.Laws as calibrationᴸ
 use Rattle.outputs.specs.Outputs.{dacbusy}
-use Rattle.machine.specs.Fits.{single-fits}
-use Rattle.machine.specs.declared.Board.{Board}
-use Rattle.machine.proofs.Registers as registers
-use Rattle.machine.proofs.Registers.Laws as registersᴸ
-use Rattle.machine.proofs.Clocks as clocks
-use Rattle.machine.proofs.Clocks.Laws as clocksᴸ
-use Rattle.machine.proofs.Board as board
-use Rattle.machine.proofs.Board.Laws as boardᴸ
-use Rattle.bus.specs.Read.{byteAt}
+use Rattle.machine_record.specs.Fits.{single-fits}
+use Rattle.machine_record.specs.declared.Board.{Board}
+use Rattle.machine_record.proofs.Registers as registers
+use Rattle.machine_record.proofs.Registers.Laws as registersᴸ
+use Rattle.machine_record.proofs.Clocks as clocks
+use Rattle.machine_record.proofs.Clocks.Laws as clocksᴸ
+use Rattle.machine_record.proofs.Board as board
+use Rattle.machine_record.proofs.Board.Laws as boardᴸ
+use Rattle.bus.specs.Registers.{byteAt}
 use Rattle.bus.specs.declared.Place.{Place}
-use Rattle.bus.specs.declared.Place.the-variants.{Start, Digital, LowChannel, HighChannel, DacLeast, DacMost, Depth, FifoControl}
-use Rattle.bus.specs.declared.Place.the-variants.{Miscellaneous, Operation, CounterControl, Analog, Count, ControlWord, PortData, PortControl}
-use Rattle.bus.specs.declared.Place.the-variants.{Reserved, Auxiliary, CalData, CalAddress, CalCommand, CalKey, Outside}
-use Rattle.events.specs.declared.Event.{Event}
-use Rattle.events.specs.declared.Event.the-variants.{WriteByte, ReadByte, ReadWord, ConversionEnd, DinPins, LatchLevel, PortPins, Tick, TransferEnd}
-use Rattle.events.specs.Answers.{valueRead}
+use Rattle.bus.specs.declared.Place.the-variants.{Base0, Base1, Base2, Base3, Base4, Base5, Base6, Base7}
+use Rattle.bus.specs.declared.Place.the-variants.{Base8, Base9, Base10, Base11, Count, ControlWord, PortData, PortControl}
+use Rattle.bus.specs.declared.Place.the-variants.{Reserved, Auxiliary, CalData, CalAddress, CalBase14, CalBase15, Outside}
+use Rattle.board_events.specs.declared.Event.{Event}
+use Rattle.board_events.specs.declared.Event.the-variants.{WriteByte, ReadByte, ReadWord, ConversionEnd, DinPins, LatchLevel, PortPins, Tick, TransferEnd}
+use Rattle.board_events.specs.Answers.{valueRead}
 use Rattle.bus.specs.Place.{placeOf}
 use Rattle.board_step.specs.Step.{number, stepOf}
-use Rattle.board_step.specs.Passed.{passed}
+use Rattle.board_step.specs.Passed.{all-passed}
 use Rattle.board.specs.Answers.{valueBrought, answer-value}
 use Rattle.numbers.specs.Typed.{Recorded, Sixteen}
 
@@ -164,16 +164,16 @@ registers-below b r =
 -- ---- the byte of any place, the oldest sample being o
 place-below : (b : Board) (o : ℕ) (p : Place) → Recorded b → o < 65536 → byteAt b o p < 65536
 unfolding byteAt
-place-below b o Start r h = omega arith
-place-below b o Digital r h = omega arith
-place-below b o LowChannel r h = omega (arith, registers-below b r .low)
-place-below b o HighChannel r h = omega (arith, registers-below b r .high)
-place-below b o DacLeast r h = omega (arith, weight-le (dacbusy (b .outputs)) 128, weight-le (calbusy (b .calibration)) 64)
-place-below b o DacMost r h = omega arith
-place-below b o Depth r h = omega (arith, registers-below b r .threshold)
-place-below b o FifoControl r h = omega (arith, flags-fit (b .fifo), mode-fits (b .converter) (b .requests))
-place-below b o Miscellaneous r h = omega (arith, status-fits (b .converter), single-fits (b .wiring .inputs))
-place-below b o Operation r h =
+place-below b o Base0 r h = omega arith
+place-below b o Base1 r h = omega arith
+place-below b o Base2 r h = omega (arith, registers-below b r .low)
+place-below b o Base3 r h = omega (arith, registers-below b r .high)
+place-below b o Base4 r h = omega (arith, weight-le (dacbusy (b .outputs)) 128, weight-le (calbusy (b .calibration)) 64)
+place-below b o Base5 r h = omega arith
+place-below b o Base6 r h = omega (arith, registers-below b r .threshold)
+place-below b o Base7 r h = omega (arith, flags-fit (b .fifo), mode-fits (b .converter) (b .requests))
+place-below b o Base8 r h = omega (arith, status-fits (b .converter), single-fits (b .wiring .inputs))
+place-below b o Base9 r h =
     omega (
       arith,
       weight-le (on (b .requests .flags .adint)) 128,
@@ -182,8 +182,8 @@ place-below b o Operation r h =
       weight-le (on (b .converter .clken)) 2,
       weight-le (on (b .requests .clksel)) 1,
     )
-place-below b o CounterControl r h = omega (arith, registers-below b r .counting)
-place-below b o Analog r h = omega (arith, registers-below b r .range)
+place-below b o Base10 r h = omega (arith, registers-below b r .counting)
+place-below b o Base11 r h = omega (arith, registers-below b r .range)
 place-below b o (Count s) r h =
     let f = owed board.the-type boardᴸ.the-laws b (r .words) (r .held) in
     timer-below (b .clocks .timer) s _ (owed clocks.the-type clocksᴸ.the-laws (b .clocks) _ (f .1 .1 .1 .1 .1 .0) .0)
@@ -194,9 +194,15 @@ place-below b o Reserved r h = omega arith
 place-below b o Auxiliary r h = omega arith
 place-below b o CalData r h = omega (arith, registers-below b r .value)
 place-below b o CalAddress r h = omega (arith, registers-below b r .address)
-place-below b o CalCommand r h =
-    omega (arith, weight-le (tdbusy (b .calibration)) 64, weight-le (eebusy (b .calibration)) 32, weight-le (on (b .calibration .cmuxen)) 16, weight-le (tdbusy (b .calibration)) 8)
-place-below b o CalKey r h = omega arith
+place-below b o CalBase14 r h =
+    omega (
+      arith,
+      weight-le (tdbusy (b .calibration)) 64,
+      weight-le (eebusy (b .calibration)) 32,
+      weight-le (on (b .calibration .cmuxen)) 16,
+      weight-le (tdbusy (b .calibration)) 8,
+    )
+place-below b o CalBase15 r h = omega arith
 place-below b o Outside r h = omega arith
 
 -- ---- the oldest sample
@@ -225,5 +231,5 @@ pub value-below : (b : Board) (m e : List ℕ) (ev : Event) → Recorded b → S
 value-below b m e ev r s = rw (answer-value b m e ev) (by (eqb (number b m e ev) 0) refl)
   where
     by : (t : Bool) → eqb (number b m e ev) 0 ≡ t → (if t then valueBrought b (queue (b .fifo) m) ev else 0) < 65536
-    by true z = brought-below b m ev r (oldest-below (b .fifo) m (passed b m e ev (eqb-true _ _ z) .works .fifo) s)
+    by true z = brought-below b m ev r (oldest-below (b .fifo) m (all-passed b m e ev (eqb-true _ _ z) .works .fifo) s)
     by false z = omega arith

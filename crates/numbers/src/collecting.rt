@@ -13,8 +13,8 @@ ghost use lib.ListN.{length};
 ghost use Rattle.collector_records.specs.Records.{started};
 ghost use Rattle.collector_phases.specs.Accesses.{accessOf};
 ghost use Rattle.collector_replies.specs.Reply.{told};
-ghost use Rattle.collector.specs.Handed.{refusalNumber};
-ghost use Rattle.scans.specs.Scans.{wholeScans};
+ghost use Rattle.collector.specs.Handed.{handedRefusal};
+ghost use Rattle.samples.specs.Scans.{wholeScans};
 ghost use Rattle.numbers.specs.Collecting.{noCollector, startAnswer, accessNamed, busAnswer, sampleHanded, kindHanded, takenAnswer};
 
 // A start: the record and 0, or no record and the refusal.
@@ -135,7 +135,7 @@ fn kind_handed(h: Handed) -> u8
 }
 
 fn refusal_handed(h: Handed) -> u8
-    ensures { λ r. ⌜ r ≡ refusalNumber h ⌝ }
+    ensures { λ r. ⌜ r ≡ handedRefusal h ⌝ }
 {
     match h {
         Handed::Nothing => 0,
@@ -199,6 +199,6 @@ pub fn take(c: Collector, brought: BusNumbers) -> TakenAnswer
 pub fn whole_length(samples: &[i16], low: u32, high: u32) -> usize
     ensures { λ r. ⌜ r ≡ length (wholeScans (now (samples .entry)) low high) ⌝ }
 {
-    let part = scans::whole_scans(samples, low, high);
+    let part = samples::whole_scans(samples, low, high);
     part.len()
 }

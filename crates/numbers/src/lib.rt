@@ -2,10 +2,10 @@
 // so that the exported functions only pass them on.
 ghost use mathlib.Core.Path.{_≡_};
 ghost use Prim.Native.Nat.{_<_};
-ghost use Rattle.events.specs.Answers.{refusalNumber};
+ghost use Rattle.board_events.specs.Answers.{refusalNumber};
 ghost use Rattle.board_stores.specs.Stores.{freshMemory, freshEeprom, storesAnswer};
 ghost use Rattle.numbers.specs.Packed.{answerNumber, decoded, numberedOf};
-ghost use Rattle.numbers.specs.Boards.{byteOf, freshOf};
+ghost use Rattle.numbers.specs.Boards.{byteOrAll, freshOf};
 use board::Answer;
 use board::Board;
 use board::Jumpers;
@@ -39,7 +39,8 @@ pub struct AdvancedNumbered {
     pub progress: ProgressNumbered,
 }
 
-// The collector's record after an answer, the polls, and what is handed over: 0 nothing, 1 the end of a start, 2 a sample, 3 the last one of a drain, 4 a refusal.
+// The collector's record after an answer, the polls, and what is handed over: 0 nothing, 1 the end of a start, 2 a sample, 3 the last one of a drain, 4 a
+// refusal.
 #[repr(C)]
 pub struct TakenAnswer {
     pub collector: Collector,
@@ -83,7 +84,7 @@ fn in_numbers(out: Outcome) -> Numbered
 
 // A number of jumpers as the record has it: 255 where a byte does not hold it.
 fn byte_of(jumpers: u32) -> u8
-    ensures { λ r. ⌜ r ≡ byteOf jumpers ⌝ }
+    ensures { λ r. ⌜ r ≡ byteOrAll jumpers ⌝ }
 {
     if jumpers <= 255 { jumpers as u8 } else { 255 }
 }

@@ -5,7 +5,8 @@ use board::Port;
 ghost use mathlib.Core.Path.{_≡_};
 ghost use Rattle.board_step.specs.Step.{stepOf, memoryAfter, eepromAfter};
 ghost use Rattle.numbers.specs.Packed.{numberedOf};
-ghost use Rattle.events.specs.declared.Event.the-variants.{WriteByte, ReadByte, ReadWord, ConversionEnd, DinPins, LatchLevel, PortPins, Tick, TransferEnd};
+ghost use Rattle.board_events.specs.declared.Event.the-variants.{WriteByte, ReadByte, ReadWord, ConversionEnd, DinPins, LatchLevel, PortPins, Tick};
+ghost use Rattle.board_events.specs.declared.Event.the-variants.{TransferEnd};
 
 // The guest writes a byte at an offset.
 pub fn write_byte(

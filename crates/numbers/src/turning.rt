@@ -1,11 +1,11 @@
 // One turn of a collector on a board, by value, with what is handed over as numbers.
 use super::TurnNumbered;
+use archive_turns::Turned;
 use board::Board;
 use collector::Collector;
 use collector::Taken;
-use turns::Turned;
 ghost use mathlib.Core.Path.{_≡_};
-ghost use Rattle.turns.specs.Real.{turnedIn, lentTurn};
+ghost use Rattle.archive_turns.specs.Real.{turnedIn, lentTurn};
 ghost use Rattle.numbers.specs.Turning.{turnNumbered};
 
 fn in_numbers(t: Turned) -> TurnNumbered
@@ -36,5 +36,5 @@ pub fn turn(
     ensures { λ r. ⌜ now (memory .exit) ≡ lentTurn collector board (now (memory .entry)) (now (eeprom .entry)) .board .memory ⌝ }
     ensures { λ r. ⌜ now (eeprom .exit) ≡ lentTurn collector board (now (memory .entry)) (now (eeprom .entry)) .board .eeprom ⌝ }
 {
-    in_numbers(turns::turn(collector, board, memory, eeprom))
+    in_numbers(archive_turns::turn(collector, board, memory, eeprom))
 }

@@ -12,10 +12,10 @@ use Rattle.base.specs.Tests.{each, every}
 use Rattle.outputs.specs.declared.Codes.{Codes}
 use Rattle.outputs.specs.declared.Outputs.{Outputs}
 use Rattle.outputs.specs.Outputs.{codeOf, took, dacbusy, put, level, lsbWritten, msbWritten, updated, ticked, cleared, resetA, resetD}
-use Rattle.outputs.specs.Working.{WorkingCodes, WorkingLoad, WorkingOutputs, outputsTests, outputsWork}
+use Rattle.outputs.specs.Working.{WorkingCodes, WorkingLoad, WorkingOutputs, outputsTests, isWorkingOutputs}
 
 -- ---- the tests are the facts
-pub outputs-of : (o : Outputs) → outputsWork o ≡ true → WorkingOutputs o
+pub outputs-of : (o : Outputs) → isWorkingOutputs o ≡ true → WorkingOutputs o
 outputs-of o h =
     let e = each (outputsTests o) h in
     record {
@@ -24,7 +24,7 @@ outputs-of o h =
       busy = leb-true _ _ (e .1 .1 .1 .1 .1 .1 .1 .0);
     }
 
-pub outputs-to : (o : Outputs) → WorkingOutputs o → outputsWork o ≡ true
+pub outputs-to : (o : Outputs) → WorkingOutputs o → isWorkingOutputs o ≡ true
 outputs-to o k = every (outputsTests o) (search (le-leb, arith))
 
 -- ---- each operation keeps them
@@ -45,7 +45,8 @@ msb-works o v w = record { codes = w .codes; load = record { loaded = omega arit
 pub updated-works : (o : Outputs) → WorkingOutputs o → WorkingOutputs (updated o)
 updated-works o w = record {
   codes =
-      by-choice WorkingCodes (on (o .load .loaded) && not (dacbusy o)) (put-works (o .codes) (o .load .channel) (o .load .code) (w .codes) (w .load .code)) (w .codes);
+      by-choice WorkingCodes (on (o .load .loaded) && not (dacbusy o)) (put-works (o .codes) (o .load .channel) (o .load .code) (w .codes) (w .load .code))
+      (w .codes);
   load = w .load;
   busy = w .busy;
 }

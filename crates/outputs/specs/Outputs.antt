@@ -5,7 +5,7 @@ use Prim.Native.Nat.{ℕ, _+_, _-_, _*_, _/_, _%_}
 use lib.Dec.{eqb, ltb}
 use Rattle.base.specs.Flags.{on}
 use Rattle.base.specs.Choice.{if_then_else_}
-use Rattle.base.specs.Fields.{field}
+use Rattle.base.specs.Fields.{field, lowest}
 use Rattle.outputs.specs.declared.Codes.{Codes}
 use Rattle.outputs.specs.declared.Load.{Load}
 use Rattle.outputs.specs.declared.Outputs.{Outputs}
@@ -44,7 +44,7 @@ scaleOf zero = if zero then 0 else 2048
 -- ---- the load (Base+5 write: DACH1 DACH0 X X DA11 DA10 DA9 DA8)
 -- channel DACH1-0; DA11-8 stand in the byte that is written, DA7-0 in the holding byte of Base+4 at that moment
 abbrev pub loadOf : ℕ → ℕ → Load
-loadOf lsb v = record { loaded = 1; channel = field v 64 4; code = v % 16 * 256 + lsb % 256 }
+loadOf lsb v = record { loaded = 1; channel = field v 6 2; code = v % 16 * 256 + lowest 8 lsb }
 
 -- nothing loaded since a reset
 abbrev pub noLoad : Load

@@ -39,5 +39,5 @@ outputsTests o =
     ∷ leb (o .busy) 100
     ∷ []
 
-abbrev pub outputsWork : Outputs → Bool
-outputsWork o = all (outputsTests o)
+abbrev pub isWorkingOutputs : Outputs → Bool
+isWorkingOutputs o = all (outputsTests o)

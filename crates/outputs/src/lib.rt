@@ -4,7 +4,7 @@ ghost use mathlib.Core.Path.{_≡_};
 ghost use Prim.Native.Nat.{_-_};
 ghost use Rattle.outputs.specs.Outputs.{scaleOf, took, updatedCodes, codeOf, dacbusy, updateAnswer};
 ghost use Rattle.outputs.specs.Outputs.{lsbWritten, msbWritten, updated, ticked, resetA, resetD, cleared, put, loadOf, level};
-ghost use Rattle.outputs.specs.Working.{outputsWork};
+ghost use Rattle.outputs.specs.Working.{isWorkingOutputs};
 
 // The 12-bit code of each output channel.
 #[repr(C)]
@@ -206,8 +206,8 @@ pub fn code_at(o: Outputs, n: u8) -> u16
 }
 
 // Whether these are a working board's outputs.
-pub fn works(o: Outputs) -> bool
-    ensures { λ r. ⌜ r ≡ outputsWork o ⌝ }
+pub fn is_working(o: Outputs) -> bool
+    ensures { λ r. ⌜ r ≡ isWorkingOutputs o ⌝ }
 {
     let codes = base::join_longs(
         base::join_words(o.codes.out0, o.codes.out1),

@@ -12,8 +12,8 @@ use Rattle.ports.specs.declared.Port.the-variants.{PortA, PortB, PortC}
 use Rattle.ports.specs.declared.Lines.{Lines}
 use Rattle.ports.specs.declared.Ports.{Ports}
 use Rattle.ports.specs.Ports.{lineOf, withLine, noLines, joined, controlTests, controlTaken}
-use Rattle.ports.specs.Ports.{controlWritten, latchWritten, portRead, pinsSet, driven, levels, resetPorts, freshPorts}
-use Rattle.ports.specs.Working.{WorkingControl, WorkingPorts, portsWork}
+use Rattle.ports.specs.Ports.{portControlWritten, latchWritten, portRead, pinsSet, driven, levels, resetPorts, freshPorts}
+use Rattle.ports.specs.Working.{WorkingControl, WorkingPorts, isWorkingPorts}
 
 -- ---- the tests are the facts
 true-not : (b : Bool) → b ≡ false → not b ≡ true
@@ -28,21 +28,21 @@ control-of v h =
 pub control-to : (v : ℕ) → WorkingControl v → controlTaken v ≡ true
 control-to v w = every (controlTests v) (w .set, (true-not _ (w .modeC), (true-not _ (w .modeA), (true-not _ (w .modeB), tt))))
 
-pub ports-of : (p : Ports) → portsWork p ≡ true → WorkingPorts p
+pub ports-of : (p : Ports) → isWorkingPorts p ≡ true → WorkingPorts p
 ports-of p h = record { control = control-of (p .control) h }
 
-pub ports-to : (p : Ports) → WorkingPorts p → portsWork p ≡ true
+pub ports-to : (p : Ports) → WorkingPorts p → isWorkingPorts p ≡ true
 ports-to p w = control-to (p .control) (w .control)
 
 -- ---- each operation keeps them
 -- after a write of 15 the control byte is an accepted one, whatever was written
-taken-works : (t : Bool) (p q : Ports) → portsWork p ≡ true → portsWork q ≡ t → portsWork (if not t then p else q) ≡ true
+taken-works : (t : Bool) (p q : Ports) → isWorkingPorts p ≡ true → isWorkingPorts q ≡ t → isWorkingPorts (if not t then p else q) ≡ true
 taken-works true p q h e = e
 taken-works false p q h e = h
 
-pub control-works : (p : Ports) (v : ℕ) → WorkingPorts p → WorkingPorts (controlWritten p v)
+pub control-works : (p : Ports) (v : ℕ) → WorkingPorts p → WorkingPorts (portControlWritten p v)
 control-works p v w =
-    ports-of (controlWritten p v)
+    ports-of (portControlWritten p v)
     (taken-works (controlTaken v) p (record { control = v; latches = noLines; pins = p .pins }) (ports-to p w) refl)
 
 pub latch-works : (p : Ports) (q : Port) (v : ℕ) → WorkingPorts p → WorkingPorts (latchWritten p q v)
@@ -79,19 +79,19 @@ halves : (t : Bool) (x y : ℕ) → joined (if t then x else y) (if t then x els
 halves true x y = omega arith
 halves false x y = omega arith
 
-pub read-a : (p : Ports) → portRead p PortA ≡ (if bit (p .control) 16 then p .pins .a else p .latches .a)
-read-a p = halves (bit (p .control) 16) (p .pins .a) (p .latches .a)
+pub read-a : (p : Ports) → portRead p PortA ≡ (if bit (p .control) 4 then p .pins .a else p .latches .a)
+read-a p = halves (bit (p .control) 4) (p .pins .a) (p .latches .a)
 
-pub read-b : (p : Ports) → portRead p PortB ≡ (if bit (p .control) 2 then p .pins .b else p .latches .b)
-read-b p = halves (bit (p .control) 2) (p .pins .b) (p .latches .b)
+pub read-b : (p : Ports) → portRead p PortB ≡ (if bit (p .control) 1 then p .pins .b else p .latches .b)
+read-b p = halves (bit (p .control) 1) (p .pins .b) (p .latches .b)
 
 -- ---- port C reads by halves: lines 7-4 by DIRCH, lines 3-0 by DIRCL
 pub read-c :
     (p : Ports) →
     portRead p PortC
     ≡ joined
-    (if bit (p .control) 8 then p .pins .c else p .latches .c)
-    (if bit (p .control) 1 then p .pins .c else p .latches .c)
+    (if bit (p .control) 3 then p .pins .c else p .latches .c)
+    (if bit (p .control) 0 then p .pins .c else p .latches .c)
 read-c p = refl
 
 -- ---- after a reset every port reads its pins, and drives no line
@@ -106,12 +106,12 @@ reset-drives p PortB = refl
 reset-drives p PortC = refl
 
 -- ---- with 80 at 15 every line is an output: a port reads what was last written to it, and drives it
-pub output-reads : (p : Ports) (q : Port) (v : ℕ) → portRead (latchWritten (controlWritten p 0x80) q v) q ≡ v
+pub output-reads : (p : Ports) (q : Port) (v : ℕ) → portRead (latchWritten (portControlWritten p 0x80) q v) q ≡ v
 output-reads p PortA v = omega arith
 output-reads p PortB v = omega arith
 output-reads p PortC v = omega arith
 
-pub output-drives : (p : Ports) (q : Port) (v : ℕ) → levels (latchWritten (controlWritten p 0x80) q v) q ≡ v
+pub output-drives : (p : Ports) (q : Port) (v : ℕ) → levels (latchWritten (portControlWritten p 0x80) q v) q ≡ v
 output-drives p PortA v = omega arith
 output-drives p PortB v = omega arith
 output-drives p PortC v = omega arith

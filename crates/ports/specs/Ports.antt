@@ -29,15 +29,15 @@ noLines = record { a = 0; b = 0; c = 0 }
 -- ---- the configuration register (manual, 16.2): 1 ModeC ModeA DIRA DIRCH ModeB DIRB DIRCL; a direction of 1 is input
 -- the direction of a port's lines 7-4: DIRA, DIRB, DIRCH
 abbrev pub highInput : ℕ → Port → Bool
-highInput control PortA = bit control 16
-highInput control PortB = bit control 2
-highInput control PortC = bit control 8
+highInput control PortA = bit control 4
+highInput control PortB = bit control 1
+highInput control PortC = bit control 3
 
 -- the direction of a port's lines 3-0: DIRA, DIRB, DIRCL
 abbrev pub lowInput : ℕ → Port → Bool
-lowInput control PortA = bit control 16
-lowInput control PortB = bit control 2
-lowInput control PortC = bit control 1
+lowInput control PortA = bit control 4
+lowInput control PortB = bit control 1
+lowInput control PortC = bit control 0
 
 -- lines 7-4 of one byte, and lines 3-0 of another
 abbrev pub joined : ℕ → ℕ → ℕ
@@ -51,18 +51,18 @@ byLine control q input output =
 -- ---- the control byte at 15
 -- a byte is accepted where bit 7 is set, and ModeC, ModeA and ModeB are clear
 abbrev pub controlTests : ℕ → List Bool
-controlTests v = bit v 128 ∷ not (bit v 64) ∷ not (bit v 32) ∷ not (bit v 4) ∷ []
+controlTests v = bit v 7 ∷ not (bit v 6) ∷ not (bit v 5) ∷ not (bit v 2) ∷ []
 
 abbrev pub controlTaken : ℕ → Bool
 controlTaken v = all (controlTests v)
 
 -- refusal 7: the byte is not accepted
-abbrev pub controlRefused : ℕ → Bool
-controlRefused v = not (controlTaken v)
+abbrev pub portControlRefused : ℕ → Bool
+portControlRefused v = not (controlTaken v)
 
 -- a write of 15: an accepted byte clears the output latches; a refused one changes nothing
-abbrev pub controlWritten : Ports → ℕ → Ports
-controlWritten p v = if controlRefused v then p else record { control = v; latches = noLines; pins = p .pins }
+abbrev pub portControlWritten : Ports → ℕ → Ports
+portControlWritten p v = if portControlRefused v then p else record { control = v; latches = noLines; pins = p .pins }
 
 -- a read of 15: the control byte (chapter 6 lists its bits in the map of reads, where 16.1 says "write only")
 abbrev pub controlRead : Ports → ℕ

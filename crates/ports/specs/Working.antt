@@ -9,13 +9,13 @@ use Rattle.ports.specs.Ports.{controlTaken}
 
 -- a control byte that is accepted
 pub record WorkingControl (v : ℕ) : Type 0 where
-  pub set : bit v 128 ≡ true
-  pub modeC : bit v 64 ≡ false
-  pub modeA : bit v 32 ≡ false
-  pub modeB : bit v 4 ≡ false
+  pub set : bit v 7 ≡ true
+  pub modeC : bit v 6 ≡ false
+  pub modeA : bit v 5 ≡ false
+  pub modeB : bit v 2 ≡ false
 
 pub record WorkingPorts (p : Ports) : Type 0 where
   pub control : WorkingControl (p .control)
 
-abbrev pub portsWork : Ports → Bool
-portsWork p = controlTaken (p .control)
+abbrev pub isWorkingPorts : Ports → Bool
+isWorkingPorts p = controlTaken (p .control)

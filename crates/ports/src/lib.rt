@@ -1,10 +1,10 @@
 // The digital ports (manual, 8.2 and chapter 16; page 1 of the register map): an 82C55 in mode 0. Each function's contract is a
 // definition of specs/Ports.antt.
 ghost use mathlib.Core.Path.{_≡_};
-ghost use Rattle.ports.specs.Ports.{lineOf, withLine, noLines, highInput, lowInput, joined, byLine, controlTaken, controlRefused};
-ghost use Rattle.ports.specs.Ports.{controlWritten, controlRead, latchWritten, portRead, pinsSet, driven, levels, resetPorts, freshPorts};
+ghost use Rattle.ports.specs.Ports.{lineOf, withLine, noLines, highInput, lowInput, joined, byLine, controlTaken, portControlRefused};
+ghost use Rattle.ports.specs.Ports.{portControlWritten, controlRead, latchWritten, portRead, pinsSet, driven, levels, resetPorts, freshPorts};
 ghost use Rattle.base.specs.Choice.{if_then_else_};
-ghost use Rattle.ports.specs.Working.{portsWork};
+ghost use Rattle.ports.specs.Working.{isWorkingPorts};
 
 // A port of eight lines.
 pub enum Port {
@@ -128,14 +128,14 @@ fn is_taken(v: u8) -> bool
 
 // Whether a control byte is refused, number 7.
 pub fn control_refused(v: u8) -> bool
-    ensures { λ r. ⌜ r ≡ controlRefused v ⌝ }
+    ensures { λ r. ⌜ r ≡ portControlRefused v ⌝ }
 {
     !is_taken(v)
 }
 
 // A write of 15: an accepted byte clears the output latches; a refused one changes nothing.
 pub fn write_control(p: Ports, v: u8) -> Ports
-    ensures { λ r. ⌜ r ≡ controlWritten p v ⌝ }
+    ensures { λ r. ⌜ r ≡ portControlWritten p v ⌝ }
 {
     if control_refused(v) {
         p
@@ -227,8 +227,8 @@ pub fn fresh() -> Ports
 }
 
 // Whether these are a working board's ports.
-pub fn works(p: Ports) -> bool
-    ensures { λ r. ⌜ r ≡ portsWork p ⌝ }
+pub fn is_working(p: Ports) -> bool
+    ensures { λ r. ⌜ r ≡ isWorkingPorts p ⌝ }
 {
     is_taken(p.control)
 }

@@ -28,7 +28,7 @@ abbrev pub writtenFifoen : Requests → ℕ → Requests
 writtenFifoen r byte =
     record {
       threshold = r .threshold;
-      fifoen = field byte 8 2;
+      fifoen = field byte 3 1;
       clksel = r .clksel;
       adinte = r .adinte;
       dinte = r .dinte;
@@ -38,7 +38,7 @@ writtenFifoen r byte =
 
 -- 7: FIFORST, bit 1
 abbrev pub FIFORST : ℕ → Bool
-FIFORST byte = bit byte 2
+FIFORST byte = bit byte 1
 
 -- 9: ADINTE, DINTE, TINTE, bits 7 to 5, and CLKSEL, bit 0
 abbrev pub writtenEnables : Requests → ℕ → Requests
@@ -46,10 +46,10 @@ writtenEnables r byte =
     record {
       threshold = r .threshold;
       fifoen = r .fifoen;
-      clksel = field byte 1 2;
-      adinte = field byte 128 2;
-      dinte = field byte 64 2;
-      tinte = field byte 32 2;
+      clksel = field byte 0 1;
+      adinte = field byte 7 1;
+      dinte = field byte 6 1;
+      tinte = field byte 5 1;
       flags = r .flags;
     }
 

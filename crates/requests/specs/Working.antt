@@ -35,13 +35,13 @@ requestsTests r =
     ∷ leb (r .flags .tint) 1
     ∷ []
 
-abbrev pub requestsWork : Requests → Bool
-requestsWork r = all (requestsTests r)
+abbrev pub isWorkingRequests : Requests → Bool
+isWorkingRequests r = all (requestsTests r)
 
-pub requests-of : (r : Requests) → requestsWork r ≡ true → WorkingRequests r
+pub requests-of : (r : Requests) → isWorkingRequests r ≡ true → WorkingRequests r
 requests-of r h = let e = each (requestsTests r) h in omega (arith, leb-true)
 
-pub requests-to : (r : Requests) → WorkingRequests r → requestsWork r ≡ true
+pub requests-to : (r : Requests) → WorkingRequests r → isWorkingRequests r ≡ true
 requests-to r w = every (requestsTests r) (search (le-leb, arith))
 
 -- ---- what keeps it so

@@ -2,7 +2,7 @@
 ghost use mathlib.Core.Path.{_≡_};
 ghost use Rattle.requests.specs.Requests.{askedAd, askedLatch, askedTimer, cleared, asking};
 ghost use Rattle.requests.specs.Registers.{writtenDepth, writtenFifoen, writtenEnables, FIFORST, modeBits, requestBits, freshRequests};
-ghost use Rattle.requests.specs.Working.{requestsWork};
+ghost use Rattle.requests.specs.Working.{isWorkingRequests};
 use converter::channels::Converter;
 
 #[repr(C)]
@@ -156,7 +156,7 @@ pub fn fresh_requests() -> Requests
 
 // Whether every flag is 0 or 1.
 pub fn is_working(r: Requests) -> bool
-    ensures { λ s. ⌜ s ≡ requestsWork r ⌝ }
+    ensures { λ s. ⌜ s ≡ isWorkingRequests r ⌝ }
 {
     let low = base::join_words(
         base::join_bytes(r.fifoen, r.clksel),

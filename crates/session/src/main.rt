@@ -1,4 +1,4 @@
 // The session program.
 fn main() {
-    terminal::run();
+    session_terminal::run();
 }

@@ -1,15 +1,13 @@
 -- What makes no edge. The specification: writing 10, or a reset, "may move a gate but is no clock edge or trigger".
 use mathlib.Core.Path.{_≡_}
 use mathlib.Core.Bool.{Bool, false}
-use Rattle.counting.specs.Edges.{stays, gate-no-fall}
-use Rattle.timer.specs.Timer.{out, fell, gatesMoved}
+use Rattle.counter_one.specs.Edges.{gate-no-fall}
+use Rattle.counter_one.specs.Falls.{fell}
+use Rattle.timer.specs.Timer.{out, gatesMoved}
 use Rattle.timer.specs.declared.Timer.{Timer}
 use Rattle.timer.specs.declared.Gates.{Gates}
 use Rattle.timer.specs.declared.Select.{Select}
 use Rattle.timer.specs.declared.Select.the-variants.{Counter0, Counter1, Counter2}
-
-pub no-fall : (o : Bool) → fell o o ≡ false
-no-fall o = stays o
 
 -- no OUT falls by a gate, so none clocks counter 2, asks for a request or triggers a conversion
 pub gates-no-fall : (t : Timer) (was is : Gates) (s : Select) → fell (out t s) (out (gatesMoved t was is) s) ≡ false

@@ -1,5 +1,11 @@
 pub mod Timer
-pub mod Working
-pub mod Kept
 pub mod Edges
 pub mod Still
+pub mod Working
+pub mod Kept
+pub mod Bus
+pub mod BusKept
+pub mod BusEdges
+pub mod Happenings
+pub mod Latch
+pub mod LatchLaws

@@ -2,10 +2,10 @@
 use mathlib.Core.Path.{_≡_, refl, sym, ap, _∙_}
 use mathlib.Core.Bool.{Bool, true, false, not, _&&_, _||_}
 use Rattle.base.specs.Laws.{never}
-use Rattle.counting.specs.Still.{gate-still}
-use Rattle.counting.specs.Counter.{gateMoved}
-use Rattle.counting.specs.Working.{Working}
-use Rattle.counting.specs.declared.Counter.{Counter}
+use Rattle.counter_one.specs.Still.{gate-still}
+use Rattle.counter_one.specs.Counter.{gateMoved}
+use Rattle.counter_one.specs.Working.{WorkingCounter}
+use Rattle.counter_one.specs.declared.Counter.{Counter}
 use Rattle.timer.specs.Timer.{gatesMove, gatesMoved}
 use Rattle.timer.specs.Working.{WorkingTimer}
 use Rattle.timer.specs.declared.Timer.{Timer}
@@ -24,7 +24,7 @@ same-levels false false true false h = never (sym h)
 same-levels false false false true h = never (sym h)
 same-levels false false false false h = (refl, refl)
 
-stays : (c : Counter) {was is : Bool} → Working c → was ≡ is → gateMoved c was is ≡ c
+stays : (c : Counter) {was is : Bool} → WorkingCounter c → was ≡ is → gateMoved c was is ≡ c
 stays c {was} w h = rw (sym h) (gate-still c was w)
 
 pub gates-still : (t : Timer) (was is : Gates) → WorkingTimer t → gatesMove was is ≡ false → gatesMoved t was is ≡ t

@@ -4,8 +4,9 @@
 use mathlib.Core.Bool.{Bool, true, false, not, _&&_, _||_}
 use Rattle.base.specs.Flags.{on}
 use Rattle.base.specs.Choice.{if_then_else_}
-use Rattle.counting.specs.Counter.{unprogrammed, pulsed, gateMoved}
-use Rattle.counting.specs.declared.Counter.{Counter}
+use Rattle.counter_one.specs.Falls.{fell}
+use Rattle.counter_one.specs.Counter.{unprogrammed, pulsed, gateMoved}
+use Rattle.counter_one.specs.declared.Counter.{Counter}
 use Rattle.timer.specs.declared.Timer.{Timer}
 use Rattle.timer.specs.declared.Gates.{Gates}
 use Rattle.timer.specs.declared.Select.{Select}
@@ -27,10 +28,6 @@ gateOf g Counter2 = g .gate12
 
 abbrev pub out : Timer → Select → Bool
 out t s = on (counterOf t s .count .out)
-
--- a level goes from high to low
-abbrev pub fell : Bool → Bool → Bool
-fell was is = was && not is
 
 -- ---- the cascade, which all that changes a counter's OUT goes through
 -- the timer with the counter s being d

@@ -4,15 +4,15 @@ use mathlib.Core.Bool.{Bool, true, _&&_}
 use mathlib.Core.List.{List, [], _∷_}
 use Rattle.base.specs.Laws.{both}
 use Rattle.base.specs.Tests.{all, each, every}
-use Rattle.counting.specs.Working as counting
-use Rattle.counting.specs.Working.{controlFits, Working, working-of, working-to}
-use Rattle.counting.specs.declared.Counter.{Counter}
+use Rattle.counter_one.specs.Working as counting
+use Rattle.counter_one.specs.Working.{controlFits, WorkingCounter, counter-of, counter-to}
+use Rattle.counter_one.specs.declared.Counter.{Counter}
 use Rattle.timer.specs.declared.Timer.{Timer}
 
 pub record WorkingTimer (t : Timer) : Type 0 where
-  pub counter0 : Working (t .counter0)
-  pub counter1 : Working (t .counter1)
-  pub counter2 : Working (t .counter2)
+  pub counter0 : WorkingCounter (t .counter0)
+  pub counter1 : WorkingCounter (t .counter1)
+  pub counter2 : WorkingCounter (t .counter2)
 
 -- the tests: of the flags, then of the control bits
 abbrev pub flagTests : Timer → List Bool
@@ -27,24 +27,24 @@ flagsWork t = all (flagTests t)
 abbrev pub controlsWork : Timer → Bool
 controlsWork t = all (controlTests t)
 
-abbrev pub workingTimer : Timer → Bool
-workingTimer t = flagsWork t && controlsWork t
+abbrev pub isWorkingTimer : Timer → Bool
+isWorkingTimer t = flagsWork t && controlsWork t
 
 -- ---- the test holds where the facts do, and only there
-each-of : (c : Counter) → counting.flagsWork c ≡ true → controlFits c ≡ true → Working c
-each-of c f k = working-of c (rw f k)
+each-of : (c : Counter) → counting.flagsWork c ≡ true → controlFits c ≡ true → WorkingCounter c
+each-of c f k = counter-of c (rw f k)
 
-pub timer-of : (t : Timer) → workingTimer t ≡ true → WorkingTimer t
+pub timer-of : (t : Timer) → isWorkingTimer t ≡ true → WorkingTimer t
 timer-of t h =
     let w = both (flagsWork t) (controlsWork t) h in
     let f = each (flagTests t) (w .0) in
     let k = each (controlTests t) (w .1) in
     record { counter0 = each-of _ (f .0) (k .0); counter1 = each-of _ (f .1 .0) (k .1 .0); counter2 = each-of _ (f .1 .1 .0) (k .1 .1 .0) }
 
-each-to : (c : Counter) → Working c → (counting.flagsWork c ≡ true) × (controlFits c ≡ true)
-each-to c w = both (counting.flagsWork c) (controlFits c) (working-to c w)
+each-to : (c : Counter) → WorkingCounter c → (counting.flagsWork c ≡ true) × (controlFits c ≡ true)
+each-to c w = both (counting.flagsWork c) (controlFits c) (counter-to c w)
 
-pub timer-to : (t : Timer) → WorkingTimer t → workingTimer t ≡ true
+pub timer-to : (t : Timer) → WorkingTimer t → isWorkingTimer t ≡ true
 timer-to t w =
     let a = each-to _ (w .counter0) in
     let b = each-to _ (w .counter1) in

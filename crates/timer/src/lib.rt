@@ -1,9 +1,12 @@
 // The 82C54's three counters with their gates and the cascade (manual, chapters 17 and 19). Each event is a function on the three by
 // value, total over any record, and its contract is a definition of specs/Timer.antt.
-use counting::Counter;
+pub mod accesses; // what the bus writes to and reads of the timer
+
+use counter::Counter;
 ghost use mathlib.Core.Path.{_≡_};
-ghost use Rattle.timer.specs.Timer.{unprogrammedTimer, counterOf, gateOf, out, fell, put, cascaded, moved, clocked, clockedIf, gatesMove, gatesMoved};
-ghost use Rattle.timer.specs.Working.{flagsWork, controlsWork, workingTimer};
+ghost use Rattle.counter_one.specs.Falls.{fell};
+ghost use Rattle.timer.specs.Timer.{unprogrammedTimer, counterOf, gateOf, out, put, cascaded, moved, clocked, clockedIf, gatesMove, gatesMoved};
+ghost use Rattle.timer.specs.Working.{flagsWork, controlsWork, isWorkingTimer};
 
 #[repr(C)]
 pub struct Timer {
@@ -30,9 +33,9 @@ pub fn new() -> Timer
     ensures { λ r. ⌜ r ≡ unprogrammedTimer ⌝ }
 {
     Timer {
-        counter0: counting::new(),
-        counter1: counting::new(),
-        counter2: counting::new(),
+        counter0: counter::new(),
+        counter1: counter::new(),
+        counter2: counter::new(),
     }
 }
 
@@ -103,7 +106,7 @@ fn cascade(before: Timer, after: Timer, g: Gates) -> Timer
         before.counter1.count.out == 1,
         after.counter1.count.out == 1,
     ) {
-        u.counter2 = counting::pulse(c, g.gate12);
+        u.counter2 = counter::pulse(c, g.gate12);
         u
     } else {
         after
@@ -120,7 +123,7 @@ pub fn move_counter(t: Timer, s: Select, d: Counter, g: Gates) -> Timer
 fn clock(t: Timer, s: Select, g: Gates) -> Timer
     ensures { λ r. ⌜ r ≡ clocked t s g ⌝ }
 {
-    move_counter(t, s, counting::pulse(counter_of(t, s), gate_of(g, s)), g)
+    move_counter(t, s, counter::pulse(counter_of(t, s), gate_of(g, s)), g)
 }
 
 // A CLK pulse at a counter, where its clock source has one.
@@ -148,9 +151,9 @@ pub fn move_gates(t: Timer, was: Gates, is: Gates) -> Timer
     let b = t.counter1;
     let c = t.counter2;
     Timer {
-        counter0: counting::move_gate(a, was.gate0, is.gate0),
-        counter1: counting::move_gate(b, was.gate12, is.gate12),
-        counter2: counting::move_gate(c, was.gate12, is.gate12),
+        counter0: counter::move_gate(a, was.gate0, is.gate0),
+        counter1: counter::move_gate(b, was.gate12, is.gate12),
+        counter2: counter::move_gate(c, was.gate12, is.gate12),
     }
 }
 
@@ -158,9 +161,9 @@ pub fn move_gates(t: Timer, was: Gates, is: Gates) -> Timer
 pub fn flags_work(t: Timer) -> bool
     ensures { λ r. ⌜ r ≡ flagsWork t ⌝ }
 {
-    counting::flags_work(t.counter0)
-        & counting::flags_work(t.counter1)
-        & counting::flags_work(t.counter2)
+    counter::flags_work(t.counter0)
+        & counter::flags_work(t.counter1)
+        & counter::flags_work(t.counter2)
 }
 
 // Whether the control bits of each counter suit its count register and OUT.
@@ -170,9 +173,9 @@ pub fn controls_work(t: Timer) -> bool
     let a = t.counter0;
     let b = t.counter1;
     let c = t.counter2;
-    if counting::control_works(a.control, a.count.register, a.count.out) {
-        if counting::control_works(b.control, b.count.register, b.count.out) {
-            counting::control_works(c.control, c.count.register, c.count.out)
+    if counter::control_works(a.control, a.count.register, a.count.out) {
+        if counter::control_works(b.control, b.count.register, b.count.out) {
+            counter::control_works(c.control, c.count.register, c.count.out)
         } else {
             false
         }
@@ -183,7 +186,7 @@ pub fn controls_work(t: Timer) -> bool
 
 // Whether the three counters are a working board's.
 pub fn is_working(t: Timer) -> bool
-    ensures { λ r. ⌜ r ≡ workingTimer t ⌝ }
+    ensures { λ r. ⌜ r ≡ isWorkingTimer t ⌝ }
 {
     if flags_work(t) {
         controls_work(t)

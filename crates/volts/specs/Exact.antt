@@ -121,7 +121,8 @@ module _ (n : ℤ) (b j k : ℕ) (x : Float) (N : natAbs n < 65536) (F : FullSca
       Answers (Volts r) (whole (n *ℤ pos b)) × OperationsExact n x r b j k
   divided y w =
       scaled (div binary64 (mul binary64 (ofInt binary64 n) x) y)
-      (div-round binary64 (negative n) false (natAbs n * b) (2 ^ j) (2 ^ k) 1 (pow-pos j) (lit< tt) (pow-pos k) (mul binary64 (ofInt binary64 n) x) y product-exact w)
+      (div-round binary64 (negative n) false (natAbs n * b) (2 ^ j) (2 ^ k) 1 (pow-pos j) (lit< tt) (pow-pos k) (mul binary64 (ofInt binary64 n) x) y
+      product-exact w)
 
 -- What `volts` computes of a whole number n and a full scale x: n * x / 2 ^ k.
 abbrev pub computed : ℤ → Float → ℕ → Float
@@ -137,11 +138,13 @@ OperationsAt (invalid p range gain) code = Unit
 OperationsAt absent code = Unit
 
 pub bipolar-volts : (n : ℤ) (range gain : ℕ) → natAbs n < 65536 → RowExact (valid bipolar range gain) →
-    let fs = fullScale range gain in Answers (Volts (computed n fs 15)) (whole (n *ℤ pos (range * 8 / gain))) × OperationsExact n fs (computed n fs 15) (range * 8 / gain) 3 15
+    let fs = fullScale range gain in
+    Answers (Volts (computed n fs 15)) (whole (n *ℤ pos (range * 8 / gain))) × OperationsExact n fs (computed n fs 15) (range * 8 / gain) 3 15
 bipolar-volts n range gain N f = divided n (range * 8 / gain) 3 15 (fullScale range gain) N f (lit≤ tt) refl (fin false 1 (pos 15)) (refl, refl)
 
 pub unipolar-volts : (n : ℤ) (range gain : ℕ) → natAbs n < 65536 → RowExact (valid unipolar range gain) →
-    let fs = fullScale range gain in Answers (Volts (computed n fs 16)) (whole (n *ℤ pos (range * 4 / gain))) × OperationsExact n fs (computed n fs 16) (range * 4 / gain) 2 16
+    let fs = fullScale range gain in
+    Answers (Volts (computed n fs 16)) (whole (n *ℤ pos (range * 4 / gain))) × OperationsExact n fs (computed n fs 16) (range * 4 / gain) 2 16
 unipolar-volts n range gain N f = divided n (range * 4 / gain) 2 16 (fullScale range gain) N f (lit≤ tt) refl (fin false 1 (pos 16)) (refl, refl)
 
 at-row : (r : Row) (code : ℤ) → natAbs code < 65536 → natAbs (code +ℤ pos 32768) < 65536 → RowExact r → OperationsAt r code

@@ -1,4 +1,5 @@
 pub mod Table
+pub mod Refused
 pub mod Volts
 pub mod Rounding
 pub mod Exact

@@ -27,7 +27,8 @@ module _ (f : Format) (s t : Bool) (a c b d : ℕ) (C : 0 < c) (D : 0 < d) where
   div-round B (fin s' m e) (fin t' zero g) v w = absurd (lt-irrefl 0 (simp (← w .1, zero-mul) at (mul-pos B (down-pos g))))
   div-round B (fin s' m e) (fin t' (suc n) g) v w =
       rw (eqb·suc-zero n, v .0, w .0)
-      (round-same f (unlike s t) (m * up e * down g) (suc n * up g * down e) (a * d) (c * b) (mul-pos (mul-pos (zero-lt-suc n) (up-pos g)) (down-pos e)) (mul-pos C B)
+      (round-same f (unlike s t) (m * up e * down g) (suc n * up g * down e) (a * d) (c * b) (mul-pos (mul-pos (zero-lt-suc n) (up-pos g)) (down-pos e))
+      (mul-pos C B)
       (mul-mul-mul-comm (m * up e) (down g) c b ∙ rw (v .1, mul-comm (down g) b, ← w .1) (simp (mul-assoc, mul-comm, mul-left-comm))))
 
 -- A whole number below 2 ^ 53, over 2 ^ k, is a value of the format.

@@ -41,9 +41,9 @@ rowOf range = getD table range absent
 -- The bits of Base + 11: RANGE, bit 3, is 5 V or 10 V; ADBU, bit 2, is 0 for bipolar; G1 and G0, bits 1 and 0, are the gain.
 abbrev configured : ℕ → Row
 configured code =
-    (if bit code 4 then (if bit code 8 then valid unipolar else invalid unipolar) else valid bipolar)
-    (if bit code 8 then 10 else 5)
-    (2 ^ field code 1 4)
+    (if bit code 2 then (if bit code 3 then valid unipolar else invalid unipolar) else valid bipolar)
+    (if bit code 3 then 10 else 5)
+    (2 ^ field code 0 2)
 
 -- The table is what the bits say.
 pub table-configured : table ≡ map configured (0 ∷ 1 ∷ 2 ∷ 3 ∷ 4 ∷ 5 ∷ 6 ∷ 7 ∷ 8 ∷ 9 ∷ 10 ∷ 11 ∷ 12 ∷ 13 ∷ 14 ∷ 15 ∷ [])

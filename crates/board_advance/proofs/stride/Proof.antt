@@ -8,7 +8,9 @@ run-requires : tie.Need-run-requires
 run-requires c κs = c .before .before .before .pre .clocks
 
 returns : tie.Need-returns
-returns c = ends.strides (c .before .before .before .before .args .b) (c .before .before .before .before .args .ticks) (c .before .before .before .gates-at .ensures) (c .before .before .heeds-0 .ensures) (c .before .heeds-2 .ensures) (c .run .ensures)
+returns c =
+    ends.strides (c .before .before .before .before .args .b) (c .before .before .before .before .args .ticks) (c .before .before .before .gates-at .ensures)
+    (c .before .before .heeds-0 .ensures) (c .before .heeds-2 .ensures) (c .run .ensures)
 
 pub stride-spec : {M : Type 1} → statement M
 stride-spec =

@@ -12,16 +12,33 @@ pop-requires : tie.Need-pop-requires
 pop-requires c κs = ways.works (c .before .before .before .before .before .is-working .ensures) (c .before .before .before .before .if2 .left) .fifo
 
 returns : tie.Need-returns
-returns c = ways.wrong (c .before .before .before .args .board) (c .before .before .before .args .memory .now) (c .before .before .before .args .eeprom .now) _ (c .if1 .taken)
+returns c =
+    ways.wrong (c .before .before .before .args .board) (c .before .before .before .args .memory .now) (c .before .before .before .args .eeprom .now) _
+    (c .if1 .taken)
 
 returns-2 : tie.Need-returns-2
-returns-2 c = ways.broken (c .before .before .before .before .before .before .args .board) (c .before .before .before .before .before .before .args .memory .now) (c .before .before .before .before .before .before .args .eeprom .now) _ (c .before .before .before .if1 .left) (c .before .is-working .ensures) (c .if2 .taken)
+returns-2 c =
+    ways.broken (c .before .before .before .before .before .before .args .board) (c .before .before .before .before .before .before .args .memory .now)
+    (c .before .before .before .before .before .before .args .eeprom .now) _ (c .before .before .before .if1 .left) (c .before .is-working .ensures)
+    (c .if2 .taken)
 
 returns-3 : tie.Need-returns-3
-returns-3 c = arms.word-outside (c .before .before .before .before .before .before .before .args .board) (c .before .before .before .before .before .before .before .args .memory .now) (c .before .before .before .before .before .before .before .args .eeprom .now) (c .before .before .before .before .before .before .before .args .offset) (ways.opened (c .before .before .before .before .if1 .left) (c .before .before .is-working .ensures) (c .before .if2 .left)) (c .if3 .taken)
+returns-3 c =
+    arms.word-outside (c .before .before .before .before .before .before .before .args .board)
+    (c .before .before .before .before .before .before .before .args .memory .now)
+    (c .before .before .before .before .before .before .before .args .eeprom .now) (c .before .before .before .before .before .before .before .args .offset)
+    (ways.opened (c .before .before .before .before .if1 .left) (c .before .before .is-working .ensures) (c .before .if2 .left)) (c .if3 .taken)
 
 returns-4 : tie.Need-returns-4
-returns-4 c = arms.word (c .before .before .before .before .before .before .before .before .before .before .before .before .before .args .board) (c .before .before .before .before .before .before .before .before .before .before .before .before .before .args .memory .now) (c .before .before .before .before .before .before .before .before .before .before .before .before .before .args .eeprom .now) (c .before .before .before .before .before .before .before .before .before .before .before .before .before .args .offset) (ways.opened (c .before .before .before .before .before .before .before .before .before .before .if1 .left) (c .before .before .before .before .before .before .before .before .is-working .ensures) (c .before .before .before .before .before .before .before .if2 .left)) (c .before .before .before .before .before .before .if3 .left) (c .before .before .before .before .oldest .ensures) (c .before .before .pop .ensures)
+returns-4 c =
+    arms.word (c .before .before .before .before .before .before .before .before .before .before .before .before .before .args .board)
+    (c .before .before .before .before .before .before .before .before .before .before .before .before .before .args .memory .now)
+    (c .before .before .before .before .before .before .before .before .before .before .before .before .before .args .eeprom .now)
+    (c .before .before .before .before .before .before .before .before .before .before .before .before .before .args .offset)
+    (ways.opened (c .before .before .before .before .before .before .before .before .before .before .if1 .left)
+    (c .before .before .before .before .before .before .before .before .is-working .ensures)
+    (c .before .before .before .before .before .before .before .if2 .left)) (c .before .before .before .before .before .before .if3 .left)
+    (c .before .before .before .before .oldest .ensures) (c .before .before .pop .ensures)
 
 pub read-word-spec : {M : Type 1} → statement M
 read-word-spec =

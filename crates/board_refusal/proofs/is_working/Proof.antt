@@ -2,10 +2,10 @@
 use borrow.Author.Needs.{needs}
 use Rattle.board_refusal.proofs.is_working.Statement.{statement}
 use Rattle.board_refusal.proofs.is_working.Tie as tie
-use Rattle.board_refusal.specs.Working.{workingBoard}
+use Rattle.board_refusal.specs.Working.{isWorkingBoard}
 
 pub is-working-spec : {M : Type 1} → statement M
-unfolding workingBoard
+unfolding isWorkingBoard
 is-working-spec =
     let met =
     tie.spec

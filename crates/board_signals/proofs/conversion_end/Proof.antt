@@ -10,19 +10,55 @@ push-requires : tie.Need-push-requires
 push-requires c κs = ways.works (c .before .before .before .before .before .is-working .ensures) (c .before .before .before .before .if2 .left) .fifo
 
 returns : tie.Need-returns
-returns c = ways.wrong (c .before .before .before .args .board) (c .before .before .before .args .memory .now) (c .before .before .before .args .eeprom .now) _ (c .if1 .taken)
+returns c =
+    ways.wrong (c .before .before .before .args .board) (c .before .before .before .args .memory .now) (c .before .before .before .args .eeprom .now) _
+    (c .if1 .taken)
 
 returns-2 : tie.Need-returns-2
-returns-2 c = ways.broken (c .before .before .before .before .before .before .args .board) (c .before .before .before .before .before .before .args .memory .now) (c .before .before .before .before .before .before .args .eeprom .now) _ (c .before .before .before .if1 .left) (c .before .is-working .ensures) (c .if2 .taken)
+returns-2 c =
+    ways.broken (c .before .before .before .before .before .before .args .board) (c .before .before .before .before .before .before .args .memory .now)
+    (c .before .before .before .before .before .before .args .eeprom .now) _ (c .before .before .before .if1 .left) (c .before .is-working .ensures)
+    (c .if2 .taken)
 
 returns-3 : tie.Need-returns-3
-returns-3 c = ends.end-refused (c .before .before .before .before .before .before .before .before .args .board) (c .before .before .before .before .before .before .before .before .args .memory .now) (c .before .before .before .before .before .before .before .before .args .eeprom .now) _ (ways.opened (c .before .before .before .before .before .if1 .left) (c .before .before .before .is-working .ensures) (c .before .before .if2 .left)) (c .if3 .taken)
+returns-3 c =
+    ends.end-refused (c .before .before .before .before .before .before .before .before .args .board)
+    (c .before .before .before .before .before .before .before .before .args .memory .now)
+    (c .before .before .before .before .before .before .before .before .args .eeprom .now) _
+    (ways.opened (c .before .before .before .before .before .if1 .left) (c .before .before .before .is-working .ensures) (c .before .before .if2 .left))
+    (c .if3 .taken)
 
 returns-4 : tie.Need-returns-4
-returns-4 c = ends.end-over (c .before .before .before .before .before .before .before .before .before .before .before .before .before .before .before .before .before .args .board) (c .before .before .before .before .before .before .before .before .before .before .before .before .before .before .before .before .before .args .memory .now) (c .before .before .before .before .before .before .before .before .before .before .before .before .before .before .before .before .before .args .eeprom .now) _ (ways.opened (c .before .before .before .before .before .before .before .before .before .before .before .before .before .before .if1 .left) (c .before .before .before .before .before .before .before .before .before .before .before .before .is-working .ensures) (c .before .before .before .before .before .before .before .before .before .before .before .if2 .left)) (c .before .before .before .before .before .before .before .before .before .if3 .left) (rw (toZ-ofZ (c .before .before .before .before .before .before .before .before .before .before .before .before .before .before .before .before .before .fits .code)) at (c .before .before .before .before .before .before .before .sample .ensures)) (c .before .before .before .before .before .before .push .ensures) (c .before .before .before .is-last .ensures) (c .before .before .if4 .taken) (c .ask-ad .ensures)
+returns-4 c =
+    ends.end-over
+    (c .before .before .before .before .before .before .before .before .before .before .before .before .before .before .before .before .before .args .board)
+    (c .before .before .before .before .before .before .before .before .before .before .before .before .before .before .before .before .before .args .memory
+    .now)
+    (c .before .before .before .before .before .before .before .before .before .before .before .before .before .before .before .before .before .args .eeprom
+    .now) _
+    (ways.opened (c .before .before .before .before .before .before .before .before .before .before .before .before .before .before .if1 .left)
+    (c .before .before .before .before .before .before .before .before .before .before .before .before .is-working .ensures)
+    (c .before .before .before .before .before .before .before .before .before .before .before .if2 .left))
+    (c .before .before .before .before .before .before .before .before .before .if3 .left)
+    (rw (toZ-ofZ
+    (c .before .before .before .before .before .before .before .before .before .before .before .before .before .before .before .before .before .fits .code)) at
+    (c .before .before .before .before .before .before .before .sample .ensures)) (c .before .before .before .before .before .before .push .ensures)
+    (c .before .before .before .is-last .ensures) (c .before .before .if4 .taken) (c .ask-ad .ensures)
 
 returns-5 : tie.Need-returns-5
-returns-5 c = ends.end-goes (c .before .before .before .before .before .before .before .before .before .before .before .before .before .before .before .before .args .board) (c .before .before .before .before .before .before .before .before .before .before .before .before .before .before .before .before .args .memory .now) (c .before .before .before .before .before .before .before .before .before .before .before .before .before .before .before .before .args .eeprom .now) _ (ways.opened (c .before .before .before .before .before .before .before .before .before .before .before .before .before .if1 .left) (c .before .before .before .before .before .before .before .before .before .before .before .is-working .ensures) (c .before .before .before .before .before .before .before .before .before .before .if2 .left)) (c .before .before .before .before .before .before .before .before .if3 .left) (rw (toZ-ofZ (c .before .before .before .before .before .before .before .before .before .before .before .before .before .before .before .before .fits .code)) at (c .before .before .before .before .before .before .sample .ensures)) (c .before .before .before .before .before .push .ensures) (c .before .before .is-last .ensures) (c .before .if4 .left) (c .start .ensures)
+returns-5 c =
+    ends.end-goes
+    (c .before .before .before .before .before .before .before .before .before .before .before .before .before .before .before .before .args .board)
+    (c .before .before .before .before .before .before .before .before .before .before .before .before .before .before .before .before .args .memory .now)
+    (c .before .before .before .before .before .before .before .before .before .before .before .before .before .before .before .before .args .eeprom .now) _
+    (ways.opened (c .before .before .before .before .before .before .before .before .before .before .before .before .before .if1 .left)
+    (c .before .before .before .before .before .before .before .before .before .before .before .is-working .ensures)
+    (c .before .before .before .before .before .before .before .before .before .before .if2 .left))
+    (c .before .before .before .before .before .before .before .before .if3 .left)
+    (rw (toZ-ofZ
+    (c .before .before .before .before .before .before .before .before .before .before .before .before .before .before .before .before .fits .code)) at
+    (c .before .before .before .before .before .before .sample .ensures)) (c .before .before .before .before .before .push .ensures)
+    (c .before .before .is-last .ensures) (c .before .if4 .left) (c .start .ensures)
 
 pub conversion-end-spec : {M : Type 1} → statement M
 conversion-end-spec =

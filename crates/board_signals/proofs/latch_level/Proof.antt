@@ -6,13 +6,24 @@ use Rattle.board_signals.proofs.latch_level.Statement.{statement}
 use Rattle.board_signals.proofs.latch_level.Tie as tie
 
 returns : tie.Need-returns
-returns c = ways.wrong (c .before .before .before .args .board) (c .before .before .before .args .memory .now) (c .before .before .before .args .eeprom .now) _ (c .if1 .taken)
+returns c =
+    ways.wrong (c .before .before .before .args .board) (c .before .before .before .args .memory .now) (c .before .before .before .args .eeprom .now) _
+    (c .if1 .taken)
 
 returns-2 : tie.Need-returns-2
-returns-2 c = ways.broken (c .before .before .before .before .before .before .args .board) (c .before .before .before .before .before .before .args .memory .now) (c .before .before .before .before .before .before .args .eeprom .now) _ (c .before .before .before .if1 .left) (c .before .is-working .ensures) (c .if2 .taken)
+returns-2 c =
+    ways.broken (c .before .before .before .before .before .before .args .board) (c .before .before .before .before .before .before .args .memory .now)
+    (c .before .before .before .before .before .before .args .eeprom .now) _ (c .before .before .before .if1 .left) (c .before .is-working .ensures)
+    (c .if2 .taken)
 
 returns-3 : tie.Need-returns-3
-returns-3 c = arms.latch (c .before .before .before .before .before .before .before .before .before .args .board) (c .before .before .before .before .before .before .before .before .before .args .memory .now) (c .before .before .before .before .before .before .before .before .before .args .eeprom .now) (c .before .before .before .before .before .before .before .before .before .args .level) (ways.opened (c .before .before .before .before .before .before .if1 .left) (c .before .before .before .before .is-working .ensures) (c .before .before .before .if2 .left)) (c .before .ask-latch .ensures)
+returns-3 c =
+    arms.latch (c .before .before .before .before .before .before .before .before .before .args .board)
+    (c .before .before .before .before .before .before .before .before .before .args .memory .now)
+    (c .before .before .before .before .before .before .before .before .before .args .eeprom .now)
+    (c .before .before .before .before .before .before .before .before .before .args .level)
+    (ways.opened (c .before .before .before .before .before .before .if1 .left) (c .before .before .before .before .is-working .ensures)
+    (c .before .before .before .if2 .left)) (c .before .ask-latch .ensures)
 
 pub latch-level-spec : {M : Type 1} → statement M
 latch-level-spec =

@@ -6,13 +6,23 @@ use Rattle.board_signals.proofs.port_pins.Statement.{statement}
 use Rattle.board_signals.proofs.port_pins.Tie as tie
 
 returns : tie.Need-returns
-returns c = ways.wrong (c .before .before .before .args .board) (c .before .before .before .args .memory .now) (c .before .before .before .args .eeprom .now) _ (c .if1 .taken)
+returns c =
+    ways.wrong (c .before .before .before .args .board) (c .before .before .before .args .memory .now) (c .before .before .before .args .eeprom .now) _
+    (c .if1 .taken)
 
 returns-2 : tie.Need-returns-2
-returns-2 c = ways.broken (c .before .before .before .before .before .before .args .board) (c .before .before .before .before .before .before .args .memory .now) (c .before .before .before .before .before .before .args .eeprom .now) _ (c .before .before .before .if1 .left) (c .before .is-working .ensures) (c .if2 .taken)
+returns-2 c =
+    ways.broken (c .before .before .before .before .before .before .args .board) (c .before .before .before .before .before .before .args .memory .now)
+    (c .before .before .before .before .before .before .args .eeprom .now) _ (c .before .before .before .if1 .left) (c .before .is-working .ensures)
+    (c .if2 .taken)
 
 returns-3 : tie.Need-returns-3
-returns-3 c = arms.port (c .before .before .before .before .before .before .before .args .board) (c .before .before .before .before .before .before .before .args .memory .now) (c .before .before .before .before .before .before .before .args .eeprom .now) (c .before .before .before .before .before .before .before .args .port) (c .before .before .before .before .before .before .before .args .pins) (ways.opened (c .before .before .before .before .if1 .left) (c .before .before .is-working .ensures) (c .before .if2 .left)) (c .set-pins .ensures)
+returns-3 c =
+    arms.port (c .before .before .before .before .before .before .before .args .board)
+    (c .before .before .before .before .before .before .before .args .memory .now)
+    (c .before .before .before .before .before .before .before .args .eeprom .now) (c .before .before .before .before .before .before .before .args .port)
+    (c .before .before .before .before .before .before .before .args .pins)
+    (ways.opened (c .before .before .before .before .if1 .left) (c .before .before .is-working .ensures) (c .before .if2 .left)) (c .set-pins .ensures)
 
 pub port-pins-spec : {M : Type 1} → statement M
 port-pins-spec =

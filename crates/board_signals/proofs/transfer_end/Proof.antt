@@ -6,19 +6,40 @@ use Rattle.board_signals.proofs.transfer_end.Statement.{statement}
 use Rattle.board_signals.proofs.transfer_end.Tie as tie
 
 end-transfer-requires : tie.Need-end-transfer-requires
-end-transfer-requires c κs = (ways.eeprom-long (c .before .before .before .before .before .before .before .before .before .args .memory .now) (c .before .before .before .before .before .before .before .before .before .args .eeprom .now) (c .before .before .before .before .before .before .if1 .left), ways.works (c .before .before .before .before .is-working .ensures) (c .before .before .before .if2 .left) .machine .calibration)
+end-transfer-requires c κs = (
+  ways.eeprom-long (c .before .before .before .before .before .before .before .before .before .args .memory .now)
+      (c .before .before .before .before .before .before .before .before .before .args .eeprom .now)
+      (c .before .before .before .before .before .before .if1 .left),
+  ways.works (c .before .before .before .before .is-working .ensures) (c .before .before .before .if2 .left) .machine .calibration,
+)
 
 returns : tie.Need-returns
-returns c = ways.wrong (c .before .before .before .args .board) (c .before .before .before .args .memory .now) (c .before .before .before .args .eeprom .now) _ (c .if1 .taken)
+returns c =
+    ways.wrong (c .before .before .before .args .board) (c .before .before .before .args .memory .now) (c .before .before .before .args .eeprom .now) _
+    (c .if1 .taken)
 
 returns-2 : tie.Need-returns-2
-returns-2 c = ways.broken (c .before .before .before .before .before .before .args .board) (c .before .before .before .before .before .before .args .memory .now) (c .before .before .before .before .before .before .args .eeprom .now) _ (c .before .before .before .if1 .left) (c .before .is-working .ensures) (c .if2 .taken)
+returns-2 c =
+    ways.broken (c .before .before .before .before .before .before .args .board) (c .before .before .before .before .before .before .args .memory .now)
+    (c .before .before .before .before .before .before .args .eeprom .now) _ (c .before .before .before .if1 .left) (c .before .is-working .ensures)
+    (c .if2 .taken)
 
 returns-3 : tie.Need-returns-3
-returns-3 c = arms.transfer-refused (c .before .before .before .before .before .before .before .before .args .board) (c .before .before .before .before .before .before .before .before .args .memory .now) (c .before .before .before .before .before .before .before .before .args .eeprom .now) (ways.opened (c .before .before .before .before .before .if1 .left) (c .before .before .before .is-working .ensures) (c .before .before .if2 .left)) (c .before .is-idle .ensures) (c .if3 .taken)
+returns-3 c =
+    arms.transfer-refused (c .before .before .before .before .before .before .before .before .args .board)
+    (c .before .before .before .before .before .before .before .before .args .memory .now)
+    (c .before .before .before .before .before .before .before .before .args .eeprom .now)
+    (ways.opened (c .before .before .before .before .before .if1 .left) (c .before .before .before .is-working .ensures) (c .before .before .if2 .left))
+    (c .before .is-idle .ensures) (c .if3 .taken)
 
 returns-4 : tie.Need-returns-4
-returns-4 c = arms.transfer (c .before .before .before .before .before .before .before .before .before .before .before .before .args .board) (c .before .before .before .before .before .before .before .before .before .before .before .before .args .memory .now) (c .before .before .before .before .before .before .before .before .before .before .before .before .args .eeprom .now) (ways.opened (c .before .before .before .before .before .before .before .before .before .if1 .left) (c .before .before .before .before .before .before .before .is-working .ensures) (c .before .before .before .before .before .before .if2 .left)) (c .before .before .before .before .before .is-idle .ensures) (c .before .before .before .before .if3 .left) (c .before .before .end-transfer .ensures)
+returns-4 c =
+    arms.transfer (c .before .before .before .before .before .before .before .before .before .before .before .before .args .board)
+    (c .before .before .before .before .before .before .before .before .before .before .before .before .args .memory .now)
+    (c .before .before .before .before .before .before .before .before .before .before .before .before .args .eeprom .now)
+    (ways.opened (c .before .before .before .before .before .before .before .before .before .if1 .left)
+    (c .before .before .before .before .before .before .before .is-working .ensures) (c .before .before .before .before .before .before .if2 .left))
+    (c .before .before .before .before .before .is-idle .ensures) (c .before .before .before .before .if3 .left) (c .before .before .end-transfer .ensures)
 
 pub transfer-end-spec : {M : Type 1} → statement M
 transfer-end-spec =

@@ -17,5 +17,6 @@ first-eight-spec =
     (λ c. search needs)
     (λ c. search needs)
     (λ c. search needs)
-    (λ c. first-eight (now (c .before .before .before .before .before .before .before .before .args .eeprom)) (c .before .before .before .before .before .before .before .before .pre))
+    (λ c. first-eight (now (c .before .before .before .before .before .before .before .before .args .eeprom))
+    (c .before .before .before .before .before .before .before .before .pre))
     in tie.close met

@@ -14,7 +14,7 @@ use mir.Syntax.{w32, w64}
 use mir.Val.{SFits, toZ, ofZ}
 use mir.Facts.{toZ-ofZ, toZ-pos, sfits-widen}
 use Rattle.codes.specs.Output.{Answers, span, plain, above, refused, inTwelveBits, nearest}
-use Rattle.codes.specs.Nearest.{answered}
+use Rattle.codes.specs.Nearest.{answers-nearest}
 use Rattle.codes.proofs.code_in.Statement.{statement}
 use Rattle.codes.proofs.code_in.Tie as tie
 
@@ -55,11 +55,12 @@ added s =
 back : (s : tie.Start) → toZ w64 (ofZ w64 (height s)) ≡ height s
 back s = toZ-ofZ (fits (height s) (small s))
 
-known : (c : tie.Else1) → let s = c .before in T (nonNeg (height s)) × (above (height s) (s .args .swing) ≡ inTwelveBits (nearest (natAbs (height s)) (s .args .swing)))
+known : (c : tie.Else1) → let s = c .before in
+    T (nonNeg (height s)) × (above (height s) (s .args .swing) ≡ inTwelveBits (nearest (natAbs (height s)) (s .args .swing)))
 known c = let s = c .before in whole (height s) (s .args .swing) (rw (added s, back s) at (c .if1 .left))
 
 answer : (s : tie.Start) (r : ℕ) → r ≡ plain (above (height s) (s .args .swing)) → Answers r (span (s .args .below) (s .args .swing)) (s .args .microvolts)
-answer s r = answered r (s .args .below) (s .args .swing) (s .args .microvolts) (s .pre .1)
+answer s r = answers-nearest r (s .args .below) (s .args .swing) (s .args .microvolts) (s .pre .1)
 
 cast-height : tie.Need-cast-height
 cast-height c = rw (toZ-ofZ (c .fits .microvolts)) (sfits-widen tt (c .fits .microvolts))
@@ -95,10 +96,12 @@ returns-2 : tie.Need-returns-2
 returns-2 c =
     let s = c .before .before in
     rw (added s, back s)
-    (answer s (nearest (natAbs (height s)) (s .args .swing)) (rw (known (c .before) .1, le-leb (nearest (natAbs (height s)) (s .args .swing)) 4095 (rw (added s, back s) at (c .if2 .taken)))))
+    (answer s (nearest (natAbs (height s)) (s .args .swing))
+    (rw (known (c .before) .1, le-leb (nearest (natAbs (height s)) (s .args .swing)) 4095 (rw (added s, back s) at (c .if2 .taken)))))
 
 returns-3 : tie.Need-returns-3
-returns-3 c = let s = c .before .before in answer s 65554 (rw (known (c .before) .1, lt-leb (nearest (natAbs (height s)) (s .args .swing)) 4095 (rw (added s, back s) at (c .if2 .left))))
+returns-3 c = let s = c .before .before in
+    answer s 65554 (rw (known (c .before) .1, lt-leb (nearest (natAbs (height s)) (s .args .swing)) 4095 (rw (added s, back s) at (c .if2 .left))))
 
 pub code-in-spec : {M : Type 1} → statement M
 code-in-spec =

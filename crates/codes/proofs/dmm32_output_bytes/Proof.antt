@@ -31,7 +31,8 @@ mul-result c = search needs
 add-result : tie.Need-add-result
 add-result c = search needs
 
-called : (c : tie.After-dmm32-output-code) → c .dmm32-output-code .result ≡ plain (outputOf (c .before .before .args .microvolts) (c .before .before .args .range))
+called : (c : tie.After-dmm32-output-code)
+    → c .dmm32-output-code .result ≡ plain (outputOf (c .before .before .args .microvolts) (c .before .before .args .range))
 called c = rw (toZ-ofZ (c .before .before .fits .microvolts)) at (c .dmm32-output-code .ensures .is)
 
 returns-2 : tie.Need-returns-2
@@ -44,7 +45,8 @@ returns-3 : tie.Need-returns-3
 returns-3 c =
     let s = c .before .before .before in
     rw (le-leb _ 3 (c .before .before .if1 .left))
-    (passed (outputOf (s .args .microvolts) (s .args .range)) (c .before .dmm32-output-code .result) (s .args .channel) (code-within (rangeOf (s .args .range)) (s .args .microvolts)) (called (c .before)) (c .if2 .left))
+    (passed (outputOf (s .args .microvolts) (s .args .range)) (c .before .dmm32-output-code .result) (s .args .channel)
+    (code-within (rangeOf (s .args .range)) (s .args .microvolts)) (called (c .before)) (c .if2 .left))
 
 pub dmm32-output-bytes-spec : {M : Type 1} → statement M
 dmm32-output-bytes-spec = tie.close (tie.spec returns dmm32-output-code-requires mul-result add-result returns-2 returns-3)

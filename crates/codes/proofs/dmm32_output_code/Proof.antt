@@ -39,4 +39,5 @@ returns-5 c =
     rw (List·getD-eq-default ranges unknown beyond) (record { is = refl; near = tt; only = tt })
 
 pub dmm32-output-code-spec : {M : Type 1} → statement M
-dmm32-output-code-spec = tie.close (tie.spec code-in-requires code-in-requires-2 code-in-requires-3 code-in-requires-4 returns returns-2 returns-3 returns-4 returns-5)
+dmm32-output-code-spec =
+    tie.close (tie.spec code-in-requires code-in-requires-2 code-in-requires-3 code-in-requires-4 returns returns-2 returns-3 returns-4 returns-5)

@@ -14,6 +14,17 @@ reply-spec =
     (λ c κs. room (c .before .before .before .before .args .c) (c .before .before .before .before .pre))
     (λ c κs. room (c .before .before .before .before .args .c) (c .before .before .before .before .pre) .0)
     (λ c κs. search needs)
-    (λ c. simp (c .advance .ensures, c .before .before .before .before .before .pre, rw (c .before .before .refusal-of .ensures, c .before .before .before .access-in .ensures) at (eq-eqb _ _ (c .before .if1 .taken))))
-    (λ c. simp (c .report .ensures, c .before .stay .ensures, c .before .before .before .before .before .before .pre, rw (c .before .before .before .refusal-of .ensures, c .before .before .before .before .access-in .ensures) at (ne-eqb _ _ (c .before .before .if1 .left)), c .before .before .before .refusal-of .ensures, c .before .before .before .before .access-in .ensures))
+    (λ c. simp (
+      c .advance .ensures,
+      c .before .before .before .before .before .pre,
+      rw (c .before .before .refusal-of .ensures, c .before .before .before .access-in .ensures) at (eq-eqb _ _ (c .before .if1 .taken)),
+    ))
+    (λ c. simp (
+      c .report .ensures,
+      c .before .stay .ensures,
+      c .before .before .before .before .before .before .pre,
+      rw (c .before .before .before .refusal-of .ensures, c .before .before .before .before .access-in .ensures) at (ne-eqb _ _ (c .before .before .if1 .left)),
+      c .before .before .before .refusal-of .ensures,
+      c .before .before .before .before .access-in .ensures,
+    ))
     in tie.close met

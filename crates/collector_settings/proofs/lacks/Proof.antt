@@ -11,5 +11,6 @@ lacks-spec =
     (λ c. simp (c .match .keys2))
     (λ c. simp (c .match .keys3))
     (λ c. simp (c .match .keys4))
-    (λ c. simp (ne-eqb _ _ (c .match .rest .1), ne-eqb _ _ (c .match .rest .0 .1), ne-eqb _ _ (c .match .rest .0 .0 .1), ne-eqb _ _ (c .match .rest .0 .0 .0 .1)))
+    (λ c. simp
+    (ne-eqb _ _ (c .match .rest .1), ne-eqb _ _ (c .match .rest .0 .1), ne-eqb _ _ (c .match .rest .0 .0 .1), ne-eqb _ _ (c .match .rest .0 .0 .0 .1)))
     in tie.close met

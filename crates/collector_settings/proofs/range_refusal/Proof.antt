@@ -14,6 +14,14 @@ range-refusal-spec =
     (λ c κs. search needs)
     (λ c. simp (rw (c .before .is-bad-range .ensures) at (c .if1 .taken)))
     (λ c. simp (rw (c .before .lacks .ensures) at (c .if2 .taken), rw (c .before .before .before .is-bad-range .ensures) at (c .before .before .if1 .left)))
-    (λ c. simp (rw (c .before .refuses-code .ensures) at (c .if3 .taken), rw (c .before .before .before .lacks .ensures) at (c .before .before .if2 .left), rw (c .before .before .before .before .before .is-bad-range .ensures) at (c .before .before .before .before .if1 .left)))
-    (λ c. simp (rw (c .before .refuses-code .ensures) at (c .if3 .left), rw (c .before .before .before .lacks .ensures) at (c .before .before .if2 .left), rw (c .before .before .before .before .before .is-bad-range .ensures) at (c .before .before .before .before .if1 .left)))
+    (λ c. simp (
+      rw (c .before .refuses-code .ensures) at (c .if3 .taken),
+      rw (c .before .before .before .lacks .ensures) at (c .before .before .if2 .left),
+      rw (c .before .before .before .before .before .is-bad-range .ensures) at (c .before .before .before .before .if1 .left),
+    ))
+    (λ c. simp (
+      rw (c .before .refuses-code .ensures) at (c .if3 .left),
+      rw (c .before .before .before .lacks .ensures) at (c .before .before .if2 .left),
+      rw (c .before .before .before .before .before .is-bad-range .ensures) at (c .before .before .before .before .if1 .left),
+    ))
     in tie.close met

@@ -14,5 +14,10 @@ answer-drain-spec =
     (λ c κs. search needs)
     (λ c κs. search needs)
     (λ c. simp (c .begin .ensures, le-leb _ _ (c .before .if1 .taken), c .before .before .before .sample-of .ensures))
-    (λ c. simp (c .report .ensures, c .before .pass .ensures, lt-leb _ _ (c .before .before .before .if1 .left), c .before .before .before .before .before .sample-of .ensures))
+    (λ c. simp (
+      c .report .ensures,
+      c .before .pass .ensures,
+      lt-leb _ _ (c .before .before .before .if1 .left),
+      c .before .before .before .before .before .sample-of .ensures,
+    ))
     in tie.close met

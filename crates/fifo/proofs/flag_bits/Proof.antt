@@ -19,5 +19,13 @@ flag-bits-spec =
     (λ c. search needs)
     (λ c κs. search needs)
     (λ c. search needs)
-    (λ c. simp (c .weight4 .ensures .0, c .before .before .weight3 .ensures .0, c .before .before .before .is-full .ensures, c .before .before .before .before .weight2 .ensures .0, c .before .before .before .before .before .is-half-full .ensures, c .before .before .before .before .before .before .weight .ensures .0, c .before .before .before .before .before .before .before .is-empty .ensures))
+    (λ c. simp (
+      c .weight4 .ensures .0,
+      c .before .before .weight3 .ensures .0,
+      c .before .before .before .is-full .ensures,
+      c .before .before .before .before .weight2 .ensures .0,
+      c .before .before .before .before .before .is-half-full .ensures,
+      c .before .before .before .before .before .before .weight .ensures .0,
+      c .before .before .before .before .before .before .before .is-empty .ensures,
+    ))
     in tie.close met

@@ -15,7 +15,7 @@ use Rattle.fifo.specs.declared.Fifo.{Fifo}
 use Rattle.fifo.specs.Samples.{pushed, popped}
 use Rattle.base.specs.Laws.{never}
 use Rattle.fifo.specs.Queue.Places.{queue-layout, length-layout, zeros-replicate, replicate-zeros, free-zero}
-use Rattle.fifo.specs.Queue.{queue, layout, emptyFifo, pushedTo, poppedFrom, fifoTests, isWorking, WorkingFifo}
+use Rattle.fifo.specs.Queue.{queue, layout, emptyFifo, pushedTo, poppedFrom, fifoTests, isWorkingFifo, WorkingFifo}
 
 -- ---- the samples held, and the memory that holds them
 pub length-queue : (f : Fifo) (m : List ℕ) → WorkingFifo f m → length (queue f m) ≡ f .held
@@ -46,9 +46,9 @@ at-only-set true n h = eq-eqb n 512 (h refl)
 at-only-set false n h = refl
 
 -- where the test holds, the facts hold
-pub working-of : (f : Fifo) (m : List ℕ) → isWorking f m ≡ true → WorkingFifo f m
-unfolding isWorking fifoTests queue layout
-working-of f m h =
+pub fifo-of : (f : Fifo) (m : List ℕ) → isWorkingFifo f m ≡ true → WorkingFifo f m
+unfolding isWorkingFifo fifoTests queue layout
+fifo-of f m h =
     let t = each (fifoTests f m) h in
     let l : length m ≡ 512 = eqb-true (length m) 512 (t .0) in
     let a : f .held ≤ 512 = leb-true (f .held) 512 (t .1 .0) in
@@ -66,9 +66,9 @@ working-of f m h =
     }
 
 -- where the facts hold, the test holds
-pub working-to : (f : Fifo) (m : List ℕ) → WorkingFifo f m → isWorking f m ≡ true
-unfolding isWorking fifoTests
-working-to f m w =
+pub fifo-to : (f : Fifo) (m : List ℕ) → WorkingFifo f m → isWorkingFifo f m ≡ true
+unfolding isWorkingFifo fifoTests
+fifo-to f m w =
     every (fifoTests f m) (
       eq-eqb _ _ (w .long),
       (

@@ -13,7 +13,7 @@ use Rattle.base.specs.Choice.{if_then_else_}
 use Rattle.fifo.specs.declared.Fifo.{Fifo}
 use Rattle.fifo.specs.Samples.{oldestOf, pushed, popped}
 use Rattle.fifo.specs.Moves.{movedDown}
-use Rattle.fifo.specs.Queue.{queue, layout, emptyFifo, pushedTo, poppedFrom, Leaves, zeros, fifoTests, isWorking, WorkingFifo}
+use Rattle.fifo.specs.Queue.{queue, layout, emptyFifo, pushedTo, poppedFrom, Leaves, zeros, fifoTests, isWorkingFifo, WorkingFifo}
 use Rattle.fifo.specs.Queue.Places.{free-zero}
 use Rattle.fifo.specs.Queue.Laws.{length-queue}
 
@@ -89,10 +89,10 @@ oldest-some f m w h = first (f .held) m (omega arith) (omega arith)
 
 -- whether the memory works, where it has its places and holds no more than those, and where not
 pub tested : (f : Fifo) (m : List ℕ) → eqb (length m) 512 && leb (f .held) 512 ≡ true
-    → (leb (f .ovf) 1 && (not (on (f .ovf)) || eqb (f .held) 512)) && zeros (drop (f .held) m) ≡ isWorking f m
-unfolding isWorking fifoTests
+    → (leb (f .ovf) 1 && (not (on (f .ovf)) || eqb (f .held) 512)) && zeros (drop (f .held) m) ≡ isWorkingFifo f m
+unfolding isWorkingFifo fifoTests
 tested f m h = rw h
 
-pub unfit : (f : Fifo) (m : List ℕ) → eqb (length m) 512 && leb (f .held) 512 ≡ false → false ≡ isWorking f m
-unfolding isWorking fifoTests
+pub unfit : (f : Fifo) (m : List ℕ) → eqb (length m) 512 && leb (f .held) 512 ≡ false → false ≡ isWorkingFifo f m
+unfolding isWorkingFifo fifoTests
 unfit f m h = rw h

@@ -18,5 +18,14 @@ due-spec =
     (λ c κs. search needs)
     (λ c κs. search needs)
     (λ c κs. search needs)
-    (λ c. simp (c .join-words .ensures, c .before .join-bytes2 .ensures, c .before .before .join-bytes .ensures, c .before .before .before .transfer-that-runs .ensures, c .before .before .before .before .channel-in-progress .ensures, c .before .before .before .before .before .ports-differ .ensures, c .before .before .before .before .before .before .outputs-differ .ensures .0, c .before .before .before .before .before .before .before .signs-of .ensures .0))
+    (λ c. simp (
+      c .join-words .ensures,
+      c .before .join-bytes2 .ensures,
+      c .before .before .join-bytes .ensures,
+      c .before .before .before .transfer-that-runs .ensures,
+      c .before .before .before .before .channel-in-progress .ensures,
+      c .before .before .before .before .before .ports-differ .ensures,
+      c .before .before .before .before .before .before .outputs-differ .ensures .0,
+      c .before .before .before .before .before .before .before .signs-of .ensures .0,
+    ))
     in tie.close met

@@ -11,5 +11,10 @@ port-differs-spec =
     (λ c κs. search needs)
     (λ c κs. search needs)
     (λ c κs. search needs)
-    (λ c. simp (c .driven-levels2 .ensures, c .before .driven-levels .ensures, c .before .before .driven-lines2 .ensures, c .before .before .before .driven-lines .ensures))
+    (λ c. simp (
+      c .driven-levels2 .ensures,
+      c .before .driven-levels .ensures,
+      c .before .before .driven-lines2 .ensures,
+      c .before .before .before .driven-lines .ensures,
+    ))
     in tie.close met

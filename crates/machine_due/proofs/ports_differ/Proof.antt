@@ -15,5 +15,12 @@ ports-differ-spec =
     (λ c κs. search needs)
     (λ c κs. search needs)
     (λ c. search needs)
-    (λ c. simp (c .weight3 .ensures .0, c .before .port-differs3 .ensures, c .before .before .weight2 .ensures .0, c .before .before .before .port-differs2 .ensures, c .before .before .before .before .weight .ensures .0, c .before .before .before .before .before .port-differs .ensures))
+    (λ c. simp (
+      c .weight3 .ensures .0,
+      c .before .port-differs3 .ensures,
+      c .before .before .weight2 .ensures .0,
+      c .before .before .before .port-differs2 .ensures,
+      c .before .before .before .before .weight .ensures .0,
+      c .before .before .before .before .before .port-differs .ensures,
+    ))
     in tie.close met

@@ -19,5 +19,23 @@ signs-of-spec =
     (λ c κs. search needs)
     (λ c κs. search needs)
     (λ c. search needs)
-    (λ c. (simp (c .weight4 .ensures .0, c .before .dout-pins2 .ensures, c .before .before .dout-pins .ensures, c .before .before .before .weight3 .ensures .0, c .before .before .before .before .is-busy .ensures, c .before .before .before .before .before .weight2 .ensures .0, c .before .before .before .before .before .before .before .weight .ensures .0, c .before .before .before .before .before .before .before .before .irq .ensures), omega (arith, c .weight4 .ensures .1, c .before .before .before .weight3 .ensures .1, c .before .before .before .before .before .weight2 .ensures .1, c .before .before .before .before .before .before .before .weight .ensures .1)))
+    (λ c. (
+      simp (
+        c .weight4 .ensures .0,
+        c .before .dout-pins2 .ensures,
+        c .before .before .dout-pins .ensures,
+        c .before .before .before .weight3 .ensures .0,
+        c .before .before .before .before .is-busy .ensures,
+        c .before .before .before .before .before .weight2 .ensures .0,
+        c .before .before .before .before .before .before .before .weight .ensures .0,
+        c .before .before .before .before .before .before .before .before .irq .ensures,
+      ),
+      omega (
+        arith,
+        c .weight4 .ensures .1,
+        c .before .before .before .weight3 .ensures .1,
+        c .before .before .before .before .before .weight2 .ensures .1,
+        c .before .before .before .before .before .before .before .weight .ensures .1,
+      ),
+    ))
     in tie.close met

@@ -12,5 +12,5 @@ clock-din-0-spec =
     (λ c κs. search needs)
     (λ c κs. search needs)
     (λ c κs. search needs)
-    (λ c. simp (c .turn .ensures, c .before .clock-if .ensures, c .before .before .gates-of .ensures))
+    (λ c. simp (c .move-timer .ensures, c .before .clock-if .ensures, c .before .before .gates-of .ensures))
     in tie.close met

@@ -13,5 +13,10 @@ move-din-spec =
     (λ c κs. search needs)
     (λ c κs. search needs)
     (λ c κs. search needs)
-    (λ c. simp (c .put-timer .ensures, c .before .before .move-gates .ensures, c .before .before .before .gates-at .ensures, c .before .before .before .before .gates-of .ensures))
+    (λ c. simp (
+      c .put-timer .ensures,
+      c .before .before .move-gates .ensures,
+      c .before .before .before .gates-at .ensures,
+      c .before .before .before .before .gates-of .ensures,
+    ))
     in tie.close met

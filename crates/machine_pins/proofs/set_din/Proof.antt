@@ -14,5 +14,11 @@ set-din-spec =
     (λ c κs. search needs)
     (λ c κs. search needs)
     (λ c κs. search needs)
-    (λ c. simp (c .trigger-din-3 .ensures, c .before .has-fallen-3 .ensures, c .before .before .clock-din-0 .ensures, c .before .before .before .has-fallen-0 .ensures, c .before .before .before .before .move-din .ensures))
+    (λ c. simp (
+      c .trigger-din-3 .ensures,
+      c .before .has-fallen-3 .ensures,
+      c .before .before .clock-din-0 .ensures,
+      c .before .before .before .has-fallen-0 .ensures,
+      c .before .before .before .before .move-din .ensures,
+    ))
     in tie.close met

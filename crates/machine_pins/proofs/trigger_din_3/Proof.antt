@@ -11,5 +11,5 @@ trigger-din-3-spec =
     tie.spec
     (λ c κs. search needs)
     (λ c κs. search needs)
-    (λ c. simp (c .clock-trigger .ensures, c .before .before .are-triggers-stopped .ensures))
+    (λ c. simp (c .external-trigger .ensures, c .before .before .are-triggers-stopped .ensures))
     in tie.close met

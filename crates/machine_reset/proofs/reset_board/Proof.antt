@@ -19,5 +19,16 @@ reset-board-spec =
     (λ c κs. search needs)
     (λ c κs. search needs)
     (λ c κs. search needs)
-    (λ c. simp (c .reset2 .ensures, c .before .reset .ensures, c .before .before .put-timer .ensures, c .before .before .before .reset-outputs .ensures, c .before .before .before .before .before .fresh-registers .ensures, c .before .before .before .before .before .before .fresh-requests .ensures, c .before .before .before .before .before .before .before .fresh-converter .ensures, c .before .before .before .before .before .before .before .before .move-gates .ensures, c .before .before .before .before .before .before .before .before .before .gates-at .ensures, c .before .before .before .before .before .before .before .before .before .before .gates-of .ensures))
+    (λ c. simp (
+      c .reset2 .ensures,
+      c .before .reset .ensures,
+      c .before .before .put-timer .ensures,
+      c .before .before .before .reset-outputs .ensures,
+      c .before .before .before .before .before .fresh-registers .ensures,
+      c .before .before .before .before .before .before .fresh-requests .ensures,
+      c .before .before .before .before .before .before .before .fresh-converter .ensures,
+      c .before .before .before .before .before .before .before .before .move-gates .ensures,
+      c .before .before .before .before .before .before .before .before .before .gates-at .ensures,
+      c .before .before .before .before .before .before .before .before .before .before .gates-of .ensures,
+    ))
     in tie.close met

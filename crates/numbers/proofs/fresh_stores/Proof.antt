@@ -13,5 +13,6 @@ fresh-stores-spec =
     (λ c κs. search needs)
     (λ c. search needs)
     (λ c. search needs)
-    (λ c. let told = c .before .before .before .before .before .fresh-stores .ensures in (c .number-of .ensures .0 ∙ ap answerNumber (told .0), (told .1 .0, told .1 .1)))
+    (λ c. let told = c .before .before .before .before .before .fresh-stores .ensures in
+    (c .number-of .ensures .0 ∙ ap answerNumber (told .0), (told .1 .0, told .1 .1)))
     in tie.close met

@@ -12,5 +12,11 @@ by-line-spec =
     (λ c κs. search needs)
     (λ c κs. search needs)
     (λ c κs. search needs)
-    (λ c. simp (c .join .ensures, c .before .choose2 .ensures, c .before .before .low-input .ensures, c .before .before .before .choose .ensures, c .before .before .before .before .high-input .ensures))
+    (λ c. simp (
+      c .join .ensures,
+      c .before .choose2 .ensures,
+      c .before .before .low-input .ensures,
+      c .before .before .before .choose .ensures,
+      c .before .before .before .before .high-input .ensures,
+    ))
     in tie.close met

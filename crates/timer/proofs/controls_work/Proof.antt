@@ -10,7 +10,12 @@ controls-work-spec =
     (λ c κs. search needs)
     (λ c κs. search needs)
     (λ c κs. search needs)
-    (λ c. simp (c .control-works3 .ensures, rw (c .before .before .control-works2 .ensures) at (c .before .if2 .taken), rw (c .before .before .before .before .control-works .ensures) at (c .before .before .before .if1 .taken)))
-    (λ c. simp (rw (c .before .control-works2 .ensures) at (c .if2 .left), rw (c .before .before .before .control-works .ensures) at (c .before .before .if1 .taken)))
+    (λ c. simp (
+      c .control-works3 .ensures,
+      rw (c .before .before .control-works2 .ensures) at (c .before .if2 .taken),
+      rw (c .before .before .before .before .control-works .ensures) at (c .before .before .before .if1 .taken),
+    ))
+    (λ c. simp
+    (rw (c .before .control-works2 .ensures) at (c .if2 .left), rw (c .before .before .before .control-works .ensures) at (c .before .before .if1 .taken)))
     (λ c. simp (rw (c .before .control-works .ensures) at (c .if1 .left)))
     in tie.close met

@@ -29,7 +29,8 @@ by-bipolar (valid unipolar range gain) x n N f e = absurd (apart (cc))
 by-bipolar (invalid p range gain) x n N f e = absurd (apart (cc))
 by-bipolar absent x n N f e = absurd (apart (cc))
 
-by-unipolar : (r : Row) (x : Float) (code : ℤ) → natAbs (code +ℤ pos 32768) < 65536 → RowExact r → scaleOf r ≡ Unipolar x → Answers (Volts (computed (code +ℤ pos 32768) x 16)) (readingAt r code)
+by-unipolar : (r : Row) (x : Float) (code : ℤ) → natAbs (code +ℤ pos 32768) < 65536 → RowExact r → scaleOf r ≡ Unipolar x
+    → Answers (Volts (computed (code +ℤ pos 32768) x 16)) (readingAt r code)
 by-unipolar (valid bipolar range gain) x code N f e = absurd (apart (cc))
 by-unipolar (valid unipolar range gain) x code N f e =
     let same : x ≡ fullScale range gain = cc in

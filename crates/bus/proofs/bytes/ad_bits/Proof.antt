@@ -2,7 +2,7 @@
 use native.Mathlib.Omega.{arith}
 use borrow.Author.Needs.{needs}
 use Rattle.converter.specs.Bytes.{status-fits}
-use Rattle.machine.specs.Fits.{single-fits}
+use Rattle.machine_record.specs.Fits.{single-fits}
 use Rattle.bus.proofs.bytes.ad_bits.Statement.{statement}
 use Rattle.bus.proofs.bytes.ad_bits.Tie as tie
 

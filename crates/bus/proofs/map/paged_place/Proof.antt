@@ -15,5 +15,10 @@ paged-place-spec =
     (λ c. simp (c .timer-place .ensures, c .before .match .keys1))
     (λ c. simp (c .port-place .ensures, c .before .match .keys2))
     (λ c. simp (c .auxiliary-place .ensures, c .before .match .keys3))
-    (λ c. simp (c .calibration-place .ensures, ne-eqb _ _ (c .before .match .rest .1), ne-eqb _ _ (c .before .match .rest .0 .1), ne-eqb _ _ (c .before .match .rest .0 .0 .1)))
+    (λ c. simp (
+      c .calibration-place .ensures,
+      ne-eqb _ _ (c .before .match .rest .1),
+      ne-eqb _ _ (c .before .match .rest .0 .1),
+      ne-eqb _ _ (c .before .match .rest .0 .0 .1),
+    ))
     in tie.close met

@@ -13,5 +13,7 @@ conversion-end-spec =
     (λ c κs. search needs)
     (λ c. search needs)
     (λ c. search needs)
-    (λ c. in-numbers (c .in-numbers .ensures) (rw (toZ-ofZ (c .before .before .before .before .before .before .before .before .before .before .fits .code)) at (c .before .before .before .before .before .conversion-end .ensures)))
+    (λ c. in-numbers (c .in-numbers .ensures)
+    (rw (toZ-ofZ (c .before .before .before .before .before .before .before .before .before .before .fits .code)) at
+    (c .before .before .before .before .before .conversion-end .ensures)))
     in tie.close met

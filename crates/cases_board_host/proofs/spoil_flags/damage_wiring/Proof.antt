@@ -1,0 +1,12 @@
+-- `cases_board_host::spoil_flags::damage_wiring` meets its contract. Assumes nothing.
+use borrow.Author.Needs.{needs}
+use Rattle.cases_board_host.proofs.spoil_flags.damage_wiring.Statement.{statement}
+use Rattle.cases_board_host.proofs.spoil_flags.damage_wiring.Tie as tie
+
+pub damage-wiring-spec : {M : Type 1} → statement M
+damage-wiring-spec =
+    let met =
+    tie.spec
+    (λ c κs. search needs)
+    (λ c. simp (c .damage-flag .ensures))
+    in tie.close met

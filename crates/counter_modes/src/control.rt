@@ -1,0 +1,66 @@
+// The control word: specs/Control.antt.
+use super::Command;
+use super::Format;
+use super::Mode;
+use super::Setup;
+ghost use mathlib.Core.Path.{_≡_};
+ghost use Rattle.counter_modes.specs.Control.{formatOf, modeChosen, command, setupOf, wordRefused};
+
+fn format_of(rw: u8) -> Format
+    ensures { λ r. ⌜ r ≡ formatOf rw ⌝ }
+{
+    if rw == 1 {
+        Format::LeastByte
+    } else if rw == 2 {
+        Format::MostByte
+    } else {
+        Format::TwoBytes
+    }
+}
+
+fn choose_mode(f: Format, m: u8) -> Command
+    ensures { λ r. ⌜ r ≡ modeChosen f m ⌝ }
+{
+    if m == 0 {
+        Command::Program(f, Mode::TerminalCount)
+    } else if m % 4 == 2 {
+        Command::Program(f, Mode::RateGenerator)
+    } else {
+        Command::NotModelled
+    }
+}
+
+// What a control word asks for, SC apart.
+pub fn command_of(word: u8) -> Command
+    ensures { λ r. ⌜ r ≡ command word ⌝ }
+{
+    if word / 16 % 4 == 0 {
+        Command::LatchCount
+    } else if word / 1 % 2 == 1 {
+        Command::NotModelled
+    } else {
+        choose_mode(format_of(word / 16 % 4), word / 2 % 8)
+    }
+}
+
+// What a counter's six control bits set up.
+pub fn setup_of(control: u8) -> Setup
+    ensures { λ r. ⌜ r ≡ setupOf control ⌝ }
+{
+    match command_of(control) {
+        Command::LatchCount => Setup::Unprogrammed,
+        Command::Program(f, m) => Setup::Programmed(f, m),
+        Command::NotModelled => Setup::Unprogrammed,
+    }
+}
+
+// Whether a control word, whatever counter it selects, is refused.
+pub fn refuses_word(word: u8) -> bool
+    ensures { λ r. ⌜ r ≡ wordRefused word ⌝ }
+{
+    match command_of(word) {
+        Command::LatchCount => false,
+        Command::Program(_, _) => false,
+        Command::NotModelled => true,
+    }
+}

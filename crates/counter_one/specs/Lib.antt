@@ -1,0 +1,10 @@
+pub mod Counter
+pub mod Working
+pub mod BySetup
+pub mod Pulsed
+pub mod Kept
+pub mod Falls
+pub mod Edges
+pub mod Marked
+pub mod Still
+pub mod Setups

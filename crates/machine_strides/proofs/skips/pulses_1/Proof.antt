@@ -1,0 +1,21 @@
+-- `machine_strides::skips::pulses_1` meets its contract, by a law for each way out. Assumes nothing. Written by tools/ways.py.
+use borrow.Author.Needs.{needs}
+use borrow.Author.Tests.{eq-eqb, ne-eqb}
+use Rattle.machine_strides.proofs.skips.pulses_1.Statement.{statement}
+use Rattle.machine_strides.proofs.skips.pulses_1.Tie as tie
+
+returns : tie.Need-returns
+returns c = simp (eq-eqb _ _ (c .if1 .taken))
+
+returns-2 : tie.Need-returns-2
+returns-2 c = simp (ne-eqb _ _ (c .if1 .left))
+
+pub pulses-1-spec : {M : Type 1} → statement M
+pulses-1-spec =
+    let met =
+    tie.spec
+    (λ c. search needs)
+    (λ c. search needs)
+    returns
+    returns-2
+    in tie.close met

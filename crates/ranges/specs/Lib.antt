@@ -1,2 +1,0 @@
-pub mod Ranges
-pub mod Laws

@@ -1,0 +1,3 @@
+pub mod Refused
+pub mod Scans
+pub mod Longest
