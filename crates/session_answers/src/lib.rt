@@ -4,7 +4,7 @@ ghost use Prim.Native.Nat.{_+_, _≤_};
 ghost use lib.ListN.{length};
 ghost use Rattle.session_text.specs.Text.{Wrote};
 ghost use Rattle.session_answers.specs.Answers.{byteAnswer, wordAnswer, refusalAnswer, answerText, irqText, eventText, badText};
-use board::Answer;
+use board_events::Answer;
 
 fn put_byte_answer(v: u8, out: &mut [u8], at: usize) -> usize
     requires { ⌜ at + 3 ≤ length (now out) ⌝ }

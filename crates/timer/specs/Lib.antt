@@ -6,6 +6,3 @@ pub mod Kept
 pub mod Bus
 pub mod BusKept
 pub mod BusEdges
-pub mod Happenings
-pub mod Latch
-pub mod LatchLaws

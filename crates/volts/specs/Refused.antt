@@ -29,15 +29,15 @@ abbrev byRow : (ℕ → Bool) → List Row → List Bool
 byRow test [] = []
 byRow test (r ∷ rows) = refuses (test 0) r ∷ byRow (λ n. test (suc n)) rows
 
-at-row : (test : ℕ → Bool) (rows : List Row) → Each (byRow test rows) → ((n : ℕ) → length rows ≤ n → test n ≡ true)
+at-each-row : (test : ℕ → Bool) (rows : List Row) → Each (byRow test rows) → ((n : ℕ) → length rows ≤ n → test n ≡ true)
     → (n : ℕ) → test n ≡ not (isValid (getD rows n absent))
-at-row test [] e beyond n = beyond n (omega arith)
-at-row test (r ∷ rows) e beyond zero = refuses-is (test 0) r (e .0)
-at-row test (r ∷ rows) e beyond (suc n) = at-row (λ m. test (suc m)) rows (e .1) (λ m h. beyond (suc m) (omega arith)) n
+at-each-row test [] e beyond n = beyond n (omega arith)
+at-each-row test (r ∷ rows) e beyond zero = refuses-is (test 0) r (e .0)
+at-each-row test (r ∷ rows) e beyond (suc n) = at-each-row (λ m. test (suc m)) rows (e .1) (λ m h. beyond (suc m) (omega arith)) n
 
 above : (n : ℕ) → 16 ≤ n → codeRefused n ≡ true
 above n h = simp (le-leb 4 n (omega arith), lt-leb n 7 (omega arith), lt-ltb 15 n h)
 
 -- a range code is refused by 13 just where the table has no valid row for it
 pub refused-by-table : (code : ℕ) → codeRefused code ≡ not (isValid (rowOf code))
-refused-by-table = at-row codeRefused table (each (byRow codeRefused table) refl) above
+refused-by-table = at-each-row codeRefused table (each (byRow codeRefused table) refl) above

@@ -22,16 +22,16 @@ use Rattle.counter_one.specs.Counter.{pulsed, gateMoved, counterRead, byteWritt
 use Rattle.counter_one.specs.Pulsed.{control-pulsed, bus-pulsed, control-gated, bus-gated}
 use Rattle.counter_one.specs.declared.Counter.{Counter}
 use Rattle.counter_one.specs.Falls.{fell}
 use Rattle.timer.specs.Timer.{counterOf, gateOf, out, put, cascaded, moved, gatesMoved}
 use Rattle.timer.specs.declared.Timer.{Timer}
 use Rattle.timer.specs.declared.Gates.{Gates}
 use Rattle.timer.specs.declared.Select.{Select}
 use Rattle.timer.specs.declared.Select.the-variants.{Counter0, Counter1, Counter2}
 use Rattle.timer.specs.Bus.{selected, controlWordRefused, controlWordWritten, countRefused, countWritten, timerRead}
-use Rattle.timer.specs.Happenings.{Chip, ChipEvent, clock, gates, read, count, control, afterWrite, next, chipAfter, sameCounter, programs}
-use Rattle.timer.specs.Happenings.{sparesCounter, allSpare, scOf, latchCommand, Unread}
+use Rattle.timer_latch.specs.Happenings.{Chip, ChipEvent, clock, gates, read, count, control, afterWrite, next, chipAfter, sameCounter, programs}
+use Rattle.timer_latch.specs.Happenings.{sparesCounter, allSpare, scOf, latchCommand, Unread}
 use Rattle.timer.specs.declared.accesses.Written.{Written}
 use Rattle.timer.specs.declared.accesses.Written.the-variants.{Accepted, Refused}
 
 -- a counter for two-byte counts with the count v latched, and its first byte read or not
 pub record LatchHeld (m : Mode) (v : ℕ) (half : Bool) (c : Counter) : Type 0 where

@@ -12,10 +12,10 @@ use Rattle.counter_modes.specs.declared.Command.the-variants.{Program}
 use Rattle.counter_one.specs.Counter.{commanded}
 use Rattle.counter_one.specs.Kept.{setup-programmed}
 use Rattle.counter_one.specs.declared.Counter.{Counter}
 use Rattle.timer.specs.Timer.{counterOf}
 use Rattle.timer.specs.declared.Select.{Select}
-use Rattle.timer.specs.Happenings.{Chip, ChipEvent, read, control, next, chipAfter, byteNow, allSpare, latchCommand, Unread}
-use Rattle.timer.specs.LatchLaws.{LatchHeld, latch-held, after-held, first-byte, first-read, second-byte, second-read, after-append}
+use Rattle.timer_latch.specs.Happenings.{Chip, ChipEvent, read, control, next, chipAfter, byteNow, allSpare, latchCommand, Unread}
+use Rattle.timer_latch.specs.LatchLaws.{LatchHeld, latch-held, after-held, first-byte, first-read, second-byte, second-read, after-append}
 
 -- what happens up to the first read of the counter s, the latch command and a, and what up to the second, b after the first read
 abbrev pub toFirstRead : Select → ℕ → List ChipEvent → List ChipEvent
