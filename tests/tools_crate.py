@@ -127,7 +127,6 @@ returns-2: laws.second (@entry .args .a) (@entry .args .b) (@if1 .left)
 }
 ANSWERED = ['bits_of', 'price_of', 'rest_of', 'size_of']
 LEAST = '''-- `toy::least_of` meets its contract, by a law for each way out. Assumes nothing. Written by tools/ways.py.
-use borrow.Author.Needs.{needs}
 use Rattle.toy.proofs.Laws as laws
 use Rattle.toy.proofs.least_of.Statement.{statement}
 use Rattle.toy.proofs.least_of.Tie as tie

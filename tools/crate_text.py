@@ -18,6 +18,15 @@ HEADER = re.compile(r'^( *)(?:(?:pub|abbrev|opaque|unfoldable) )*(?:(?:record|da
 MODULE = re.compile(r'^( *)module .*')
 
 
+def promise_of(function):
+    """A function's promise, as a part that its callers rest on: they do not rest on its body."""
+    return Part(function.file, function.name + ' promises')
+
+
+def is_promise(part):
+    return part.name.endswith(' promises')
+
+
 def listed_crates():
     return sorted(os.path.basename(d) for d in glob.glob('crates/*') if os.path.isdir(d + '/src'))
 
@@ -79,10 +88,11 @@ OWN_MODULES = re.compile(r'^use Rattle·\w+·proofs\.proofs\.\S+\.(?:Statement|T
 class Crate:
     def __init__(self, name):
         self.name, self.root = name, f'crates/{name}'
-        self.functions, self.others, self.logic, self.aliases = {}, {}, {}, {}
+        self.functions, self.others, self.logic, self.aliases, self.uses = {}, {}, {}, {}, {}
         for path in sorted(glob.glob(f'{self.root}/src/*.rt')):
             file, text = os.path.relpath(path, self.root), open(path).read()
             self.aliases[file] = re.findall(r'([^\s{},]+) as ([^\s{},;]+)', text)
+            self.uses[file] = '\n'.join(re.findall(r'^use .*', text, re.M))
             for part, value in source_parts(file, text).items():
                 (self.functions if value[2].lstrip().startswith(('fn', 'pub fn', 'extern', 'pub extern')) else self.others)[part] = value
         self.proof_files = {}
@@ -124,7 +134,9 @@ class Crate:
             for file, proof in self.proof_files.get(part, ()):
                 found |= self.named(file, proof)
             for callee in self.called(part):
-                found |= self.named(callee.file, contract(self.functions[callee][2]))
+                found |= self.named(callee.file, contract(self.functions[callee][2])) | {promise_of(callee)}
+        elif is_promise(part):
+            found = set()
         else:
             found = self.named(part.file, (self.logic.get(part) or self.others[part])[2])
         return frozenset(found - {part})
@@ -135,10 +147,15 @@ class Crate:
 
     @functools.lru_cache(None)
     def called(self, part):
-        """The functions of the crate that a function calls itself."""
+        """The functions of the crate that a function calls itself: by the name alone in its own file, or where a `use` line brings it, and else by its module."""
         text = self.functions[part][2]
-        return frozenset(k for k in self.functions if k != part and re.search(
-            r'(?<!fn )(?<![\w:])(?:crate::)?(?:' + os.path.basename(k.file)[:-3] + r'::)?' + k.name + r'\(', text))
+        return frozenset(k for k in self.functions if k != part and re.search(r'(?<!fn )(?<![\w:])' + self.path_to(k, part.file) + k.name + r'\(', text))
+
+    def path_to(self, function, file):
+        module = os.path.basename(function.file)[:-3]
+        path = r'(?:crate|super)::' if module in ('lib', 'main') else r'(?:(?:crate|super)::)?' + module + '::'
+        brought = re.search(rf'^use .*\b{function.name}\b', self.uses.get(file, ''), re.M)
+        return f'(?:{path})?' if function.file == file or brought else path
 
     @functools.lru_cache(None)
     def reached(self, part):

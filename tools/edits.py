@@ -4,6 +4,8 @@ import glob
 import os
 import re
 
+from crate_text import promise_of
+
 Pair = collections.namedtuple('Pair', 'file old new')
 Wrong = collections.namedtuple('Wrong', 'name said pairs')
 
@@ -63,8 +65,10 @@ def line_of(crate, pair):
 
 
 def changed(crate, wrong):
-    """The parts that a wrong answer changes."""
-    return {crate.at(p.file, line_of(crate, p)) for p in wrong.pairs} - {None}
+    """The parts that a wrong answer changes: of a function, its promise too where that is what changes."""
+    places = {(crate.at(p.file, line_of(crate, p)), line_of(crate, p)) for p in wrong.pairs}
+    parts = {part for part, _ in places} - {None}
+    return parts | {promise_of(part) for part, line in places if part in crate.functions and line < crate.body_line(part)}
 
 
 def together_in_text(crate, wrongs):

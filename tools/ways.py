@@ -98,7 +98,7 @@ def proof(crate, function, folder):
     own = f'Rattle.{crate}.proofs'
     return [
         f'-- `{crate}::{function.replace(".", "::")}` meets its contract, by a law for each way out. Assumes nothing. Written by tools/ways.py.',
-        'use borrow.Author.Needs.{needs}', *uses, *(['use Rattle.board_step.specs.Ways as ways'] if any('ways.' in line for line in declared) else []),
+        *(['use borrow.Author.Needs.{needs}'] if any('search needs' in line for line in answers) else []), *uses, *(['use Rattle.board_step.specs.Ways as ways'] if any('ways.' in line for line in declared) else []),
         f'use {own}.{function}.Statement.{{statement}}', f'use {own}.{function}.Tie as tie', *declared, '',
         f'pub {kebab(function)}-spec : {{M : Type 1}} → statement M', f'{kebab(function)}-spec =', '    let met =', '    tie.spec', *answers, '    in tie.close met']
 

@@ -82,7 +82,7 @@ def try_edits(names):
 def witnesses(crate, parts):
     """What can be refused for a change of these parts at first hand: it rests on no law that can be, nor, where the prover makes its proof by itself, calls a
     function that can be."""
-    laws = {p for p in crate.logic if crate.is_law(p) and parts & crate.rests(p)}
+    laws = {p for p in crate.logic if crate.is_law(p) and parts & seen_by(crate, p)}
     functions = {f for f in crate.functions if parts & seen_by(crate, f)}
     return [p for p in laws if not laws & crate.rests(p) - {p}] + [
         f for f in functions if not laws & crate.rests(f) and (f in crate.proof_files or not crate.called(f) & functions)]

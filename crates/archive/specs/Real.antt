@@ -6,7 +6,7 @@ use native.Mathlib.Omega.{arith}
 use lib.Dec.{eqb}
 use lib.ListN.{length}
 use Rattle.fifo.specs.Queue.Laws.{length-queue}
-use Rattle.board.specs.StretchSteps.{works-on}
+use Rattle.board_laws.specs.StretchSteps.{works-on}
 use Rattle.board_step.specs.States.{State, Works}
 use Rattle.archive_turns.specs.Real.{real}
 use Rattle.archive_demand.specs.Laws.{Laws}

@@ -24,8 +24,8 @@ use Rattle.bus.specs.Registers.{writeChecks, writtenAt, writeEffect, readChecks
 use Rattle.board_refusal.specs.Refusals.{eventChecks}
 use Rattle.board_step.specs.Act.{acted}
 use Rattle.board_step.specs.Step.{ran}
-use Rattle.board.specs.Held.{Held, heldAnswer, happened}
-use Rattle.board.specs.Begins.{begins}
+use Rattle.board_laws.specs.Held.{Held, heldAnswer, happened}
+use Rattle.board_laws.specs.Begins.{begins}
 use Rattle.board_events.specs.declared.Answer.the-variants.{Done, Byte, Word}
 use Rattle.board_events.specs.declared.Event.the-variants.{WriteByte, ReadByte, ReadWord}
 use Rattle.board_step.specs.States.{State, Works}

@@ -28,15 +28,15 @@ use Rattle.bus.specs.Registers.{writeChecks, writtenAt, writeEffect, readChecks
 use Rattle.board_refusal.specs.Refusals.{eventChecks}
 use Rattle.board_step.specs.Act.{acted, eepromActed}
 use Rattle.board_step.specs.Step.{ran}
-use Rattle.board.specs.Held.{Held, heldAnswer, happened, step-held}
-use Rattle.board.specs.Begins.{begins, codeIn}
+use Rattle.board_laws.specs.Held.{Held, heldAnswer, happened, step-held}
+use Rattle.board_laws.specs.Begins.{begins, codeIn}
 use Rattle.collector_phases.specs.declared.Access.{Access}
 use Rattle.collector_settings.specs.Settings.{startRefusal}
 use Rattle.collector_phases.specs.Phases.{phaseOf}
 use Rattle.collector_phases.specs.Fit.{fit}
 use Rattle.collector_phases.specs.Accesses.{accessOf}
 use Rattle.collector_replies.specs.Reply.{replied}
-use Rattle.board.specs.StretchSteps.{works-on}
+use Rattle.board_laws.specs.StretchSteps.{works-on}
 use Rattle.board_step.specs.States.{State, Works}
 use Rattle.archive_turns.specs.Machine.{Machine, Host}
 use Rattle.archive_turns.specs.Real.{real}

@@ -7,10 +7,10 @@ use mathlib.Core.Path.{_≡_, refl, sym, ap, subst, _∙_}
 use lib.Dec.{eqb}
 use Rattle.base.specs.Flags.{on}
 use Rattle.base.specs.Choice.{if_then_else_}
-use Rattle.board.specs.Held.{Held, eventNumber, heldAnswer, happened, heldIn, number-working, step-held}
+use Rattle.board_laws.specs.Held.{Held, eventNumber, heldAnswer, happened, heldIn, number-working, step-held}
 use Rattle.board_events.specs.declared.Answer.{Answer}
 use Rattle.board_events.specs.declared.Event.{Event}
-use Rattle.board.specs.Begins.{begins, codeIn}
+use Rattle.board_laws.specs.Begins.{begins, codeIn}
 use Rattle.board_step.specs.States.{State, Works}
 use Rattle.archive_turns.specs.Machine.{View}
 use Rattle.archive_turns.specs.Real.{takes, real}

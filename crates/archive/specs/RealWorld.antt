@@ -1,7 +1,7 @@
 -- The world's events on the board of `board::step` (the specification, "Conversions, edges and requests"): an edge or a tick may begin a
 -- conversion, a conversion's end ends one and may begin the next, and no other event touches conversions or samples.
 use Prim.Native.Nat.{ℕ, _+_}
-use mathlib.Core.Bool.{Bool, true, false, not, _&&_, _||_}
+use mathlib.Core.Bool.{Bool, true, false, not, _&&_}
 use mathlib.Core.Option.{none, some}
 use mathlib.Core.Path.{_≡_, refl, sym, ap, _∙_}
 use lib.IntN.{ℤ}
@@ -27,9 +27,9 @@ use Rattle.ports.specs.declared.Port.{Port}
 use Rattle.board_refusal.specs.Refusals.{eventChecks}
 use Rattle.board_step.specs.Act.{dinLevels, acted}
 use Rattle.board_step.specs.Step.{ran}
-use Rattle.board.specs.Held.{Held, ranHeld, happened}
-use Rattle.board.specs.Begins.{begins, tickBegins}
-use Rattle.board.specs.Conversions.{begun, din-triggered, tick-lost, counter0-same}
+use Rattle.board_laws.specs.Held.{Held, ranHeld, happened}
+use Rattle.board_laws.specs.Begins.{begins, tickBegins}
+use Rattle.board_laws.specs.Conversions.{begun, din-triggered, tick-lost, counter0-same}
 use Rattle.board_events.specs.declared.Din.{Din}
 use Rattle.board_events.specs.declared.Event.{Event}
 use Rattle.board_events.specs.declared.Event.the-variants.{ConversionEnd, DinPins, LatchLevel, PortPins, Tick, TransferEnd}

@@ -1,6 +1,5 @@
 -- Wrong collectors on the product's own board, and a wrong board, each of which demand 3 rules out by a run.
 use Prim.Native.Nat.{ℕ, suc, _%_}
-use mathlib.Core.Bool.{true, false}
 use mathlib.Core.List.{List, [], _∷_, _++_, IsPrefix}
 use mathlib.Core.Option.{Option, none, some}
 use mathlib.Core.Path.{_≡_, refl, ap}
@@ -13,7 +12,7 @@ use Rattle.converter.specs.Codes.{sampleOf}
 use Rattle.converter.specs.Registers.{freshConverter}
 use Rattle.converter.specs.Working.{WorkingConverter, fresh-works}
 use Rattle.converter.specs.declared.channels.Converter.{Converter}
-use Rattle.board.specs.Held.{Held, heldAnswer, happened}
+use Rattle.board_laws.specs.Held.{Held, heldAnswer, happened}
 use Rattle.collector_phases.specs.declared.Access.the-variants.{WriteByte, NoAccess}
 use Rattle.collector_phases.specs.declared.Collector.{Collector}
 use Rattle.collector_phases.specs.declared.Phase.the-variants.{Poll, Take}

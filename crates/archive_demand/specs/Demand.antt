@@ -4,7 +4,7 @@
 -- that finds samples yields the oldest. A look that shows the memory full yields its 512 samples and then the gap. After a gap, the next sample
 -- is the low channel's, as from a fresh start. Triggers and ticks may fall anywhere."
 use Prim.Native.Nat.{ℕ, _≤_}
-use mathlib.Core.Bool.{Bool, true, false}
+use mathlib.Core.Bool.{true, false}
 use mathlib.Core.List.{List, [], _∷_, _++_, map, IsPrefix}
 use mathlib.Core.Path.{_≡_}
 use lib.IntN.{ℤ}
@@ -17,7 +17,7 @@ use Rattle.collector_phases.specs.declared.Access.{Access}
 use Rattle.collector_phases.specs.declared.Access.the-variants.{WriteByte, ReadByte, ReadWord, NoAccess}
 use Rattle.samples.specs.declared.Sample.{Sample}
 use Rattle.archive_turns.specs.Machine.{Machine, Host}
-use Rattle.archive_demand.specs.Run.{Happening, turn, Run, begin, _▸_, System, next, given, gap, after, givenIn, gapsIn, turns}
+use Rattle.archive_demand.specs.Run.{Happening, turn, Run, begin, System, next, given, gap, after, givenIn, gapsIn, turns}
 use Rattle.archive_demand.specs.Log.{Log, asks, log}
 
 -- the codes of samples, and of the 16-bit numbers that the memory holds

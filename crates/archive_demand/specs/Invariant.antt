@@ -1,16 +1,9 @@
 -- What holds in each phase holds after every run. Assumes nothing.
-use Prim.Native.Nat.{ℕ}
-use mathlib.Core.Bool.{Bool, true, false}
-use mathlib.Core.List.{List, []}
-use mathlib.Core.Path.{_≡_, refl, sym, _∙_, ap, subst}
-use Rattle.board_events.specs.declared.Answer.{Answer}
-use Rattle.board_events.specs.declared.Event.{Event}
-use Rattle.collector_phases.specs.declared.Access.{Access}
-use Rattle.collector_phases.specs.declared.Access.the-variants.{WriteByte, ReadByte, ReadWord, NoAccess}
+use mathlib.Core.List.{[]}
+use mathlib.Core.Path.{_≡_, refl, _∙_}
 use Rattle.collector_phases.specs.declared.Collector.{Collector}
 use Rattle.collector_settings.specs.declared.Settings.{Settings}
-use Rattle.collector_steps.specs.declared.Taken.{Taken}
-use Rattle.collector_phases.specs.Phases.{phaseOf, accessIn}
+use Rattle.collector_phases.specs.Phases.{phaseOf}
 use Rattle.collector_phases.specs.Fit.{FitSettings, FitCollector}
 use Rattle.collector_phases.specs.Accesses.{accessOf}
 use Rattle.collector_replies.specs.Reply.{replied}
@@ -23,11 +16,11 @@ use Rattle.archive_turns.specs.declared.Asked.{Asked}
 use Rattle.archive_turns.specs.declared.Asked.the-variants.{Made, NotMade}
 use Rattle.collector_answers.specs.declared.BusAnswer.{BusAnswer}
 use Rattle.collector_answers.specs.declared.BusAnswer.the-variants as bus
-use Rattle.archive_turns.specs.Turn.{eventOf, broughtBy, broughtTo, turnBy, turnOf}
+use Rattle.archive_turns.specs.Turn.{eventOf, broughtBy, broughtTo, turnBy}
 use Rattle.archive_turns.specs.Hosts.{words}
 use Rattle.archive_demand.specs.World.{eventIn}
 use Rattle.archive_demand.specs.Run.{Happening, turn, world, Run, begin, _▸_, System, next, after}
-use Rattle.archive_demand.specs.Log.{Log, asks, note, blank, log, selected}
+use Rattle.archive_demand.specs.Log.{Log, note, log}
 use Rattle.archive_demand.specs.Laws.{Laws}
 use Rattle.archive_demand.specs.Phases.{FactOf}
 use Rattle.archive_demand.specs.Worlds.{world-kept}

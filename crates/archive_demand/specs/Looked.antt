@@ -1,37 +1,32 @@
 -- A look, and all that it owes: the parts `yields`, `marks` and `again` of demand 3. Assumes nothing.
-use Prim.Native.Nat.{ℕ, zero, suc, _+_, _≤_, _<_}
+use Prim.Native.Nat.{ℕ, suc, _+_, _≤_, _<_}
 use mathlib.Core.Bool.{Bool, true, false}
 use mathlib.Core.List.{List, [], _∷_, _++_, append-nil}
-use mathlib.Core.Path.{_≡_, refl, sym, _∙_, ap, subst}
+use mathlib.Core.Path.{_≡_, refl, sym, _∙_, ap}
 use native.Mathlib.Omega.{arith}
-use borrow.Author.Tests.{leb-true, leb-false, le-leb, lt-leb}
-use lib.Dec.{eqb, leb}
+use borrow.Author.Tests.{le-leb, lt-leb}
+use lib.Dec.{leb}
 use lib.ListN.{length, length-append, take}
 use lib.Seq.{take-at}
 use Rattle.base.specs.Choice.{if_then_else_}
 use Rattle.base.specs.Laws.{never}
-use Rattle.board_events.specs.declared.Answer.the-variants.{Byte}
 use Rattle.board_events.specs.declared.Event.the-variants as event
-use Rattle.collector_phases.specs.declared.Access.{Access}
-use Rattle.collector_phases.specs.declared.Access.the-variants.{WriteByte, ReadByte, ReadWord, NoAccess}
+use Rattle.collector_phases.specs.declared.Access.the-variants.{WriteByte, ReadByte}
 use Rattle.collector_phases.specs.declared.Collector.{Collector}
 use Rattle.collector_settings.specs.declared.Settings.{Settings}
-use Rattle.samples.specs.declared.Sample.{Sample}
 use Rattle.collector_steps.specs.declared.Taken.{Taken}
-use Rattle.collector_phases.specs.declared.Phase.{Phase}
-use Rattle.collector_phases.specs.declared.Phase.the-variants.{Stop, Poll, Range, Clear, Low, High, Go, Look, Take, Drain, Stuck, Unknown}
+use Rattle.collector_phases.specs.declared.Phase.the-variants.{Look}
 use Rattle.collector_phases.specs.Phases.{phaseOf, accessIn}
 use Rattle.collector_phases.specs.Fit.{FitCollector}
 use Rattle.collector_phases.specs.Accesses.{accessOf}
 use Rattle.collector_replies.specs.Reply.{replied}
 use Rattle.collector.specs.Handed.{samplesOf, gapMarked}
 use Rattle.collector.specs.Steps.{Step, access-fit}
-use Rattle.collector.specs.Steps.{poll-wide, poll-free, poll-again, poll-last, ranged, cleared, lowered, raised, went, look-wide, look-contradicts, look-empty}
+use Rattle.collector.specs.Steps.{look-wide, look-contradicts, look-empty}
 use Rattle.collector.specs.Steps.{look-full, look-few}
 use Rattle.archive_turns.specs.Machine.{View, Machine}
-use Rattle.archive_turns.specs.Turn.{eventOf, turnBy}
 use Rattle.archive_turns.specs.Hosts.{words}
-use Rattle.archive_demand.specs.Run.{Happening, turn, world, Run, begin, _▸_, System, turning, next, given, gap, after, givenIn, gapsIn, turns}
+use Rattle.archive_demand.specs.Run.{turn, Run, begin, _▸_, System, turning, next, given, gap, after, givenIn, gapsIn, turns}
 use Rattle.archive_demand.specs.Demand.{codesOf, codesIn, owed, look}
 use Rattle.archive_demand.specs.Laws.{Laws}
 use Rattle.archive_demand.specs.Sights.{status, no-contradiction, shows-none, shows-some, shows-all, shows-few}

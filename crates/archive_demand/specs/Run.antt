@@ -1,7 +1,7 @@
 -- A board with a collector alone on its bus, and the runs of the two: a happening is an event of the world, or a turn of the collector. No other
 -- happening makes a bus access, so the collector is alone on the bus.
 use Prim.Native.Nat.{ℕ, suc, _+_}
-use mathlib.Core.Bool.{Bool, true, false}
+use mathlib.Core.Bool.{Bool, false}
 use mathlib.Core.List.{List, [], _++_}
 use Rattle.base.specs.Choice.{if_then_else_}
 use Rattle.collector_phases.specs.declared.Collector.{Collector}

@@ -8,7 +8,7 @@ use lib.Dec.{leb}
 use lib.ListN.{length}
 use Rattle.collector_answers.specs.Answers.{EF, HF, FF, OVF, contradicts, isFull}
 use Rattle.archive_turns.specs.Machine.{Machine}
-use Rattle.archive_demand.specs.Laws.{Looks, Laws}
+use Rattle.archive_demand.specs.Laws.{Laws}
 
 -- with n held
 module _ (n : ℕ) (room : n ≤ 512) where

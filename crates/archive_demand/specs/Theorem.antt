@@ -1,13 +1,11 @@
 -- Demand 3 holds of the collector on any board that obeys the laws. Assumes nothing.
-use Prim.Native.Nat.{ℕ, suc, _≤_}
-use mathlib.Core.Bool.{Bool, true, false, true≢false}
+use Prim.Native.Nat.{ℕ, suc}
+use mathlib.Core.Bool.{true, false, true≢false}
 use mathlib.Core.List.{List, [], _∷_, _++_, IsPrefix}
 use mathlib.Core.Path.{_≡_, refl, sym, _∙_, ap, subst}
 use native.Mathlib.Omega.{arith}
 use lib.ListN.{length}
-use Rattle.collector_phases.specs.declared.Access.{Access}
 use Rattle.collector_phases.specs.declared.Access.the-variants.{WriteByte, ReadByte, ReadWord}
-use Rattle.collector_phases.specs.declared.Collector.{Collector}
 use Rattle.collector_settings.specs.declared.Settings.{Settings}
 use Rattle.samples.specs.declared.Sample.{Sample}
 use Rattle.collector_phases.specs.declared.Phase.{Phase}

@@ -5,7 +5,6 @@ use mathlib.Core.List.{List, [], _∷_, _++_, append-assoc, append-nil}
 use mathlib.Core.Option.{Option, none, some}
 use mathlib.Core.Path.{_≡_, refl, sym, _∙_, ap}
 use native.Mathlib.Omega.{arith}
-use Rattle.board_events.specs.declared.Answer.the-variants.{Done, Byte, Word}
 use Rattle.board_events.specs.declared.Event.the-variants as event
 use lib.ListN.{length}
 use Rattle.converter.specs.Codes.{sampleOf}

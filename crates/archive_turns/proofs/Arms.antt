@@ -8,12 +8,11 @@ use Rattle.board_events.specs.declared.Event.{Event}
 use Rattle.board_step.specs.declared.Outcome.{Outcome}
 use Rattle.collector_phases.specs.declared.Collector.{Collector}
 use Rattle.collector_phases.specs.Accesses.{accessOf}
-use Rattle.archive_turns.specs.declared.Asked.{Asked}
 use Rattle.archive_turns.specs.declared.Asked.the-variants.{Made, NotMade}
 use Rattle.collector_answers.specs.declared.BusAnswer.{BusAnswer}
 use Rattle.collector_answers.specs.declared.BusAnswer.the-variants as bus
 use Rattle.archive_turns.specs.declared.Turned.{Turned}
-use Rattle.archive_turns.specs.Turn.{Turning, eventOf, broughtBy, unturned, broughtTo, turnBy}
+use Rattle.archive_turns.specs.Turn.{eventOf, broughtBy, unturned, broughtTo}
 use Rattle.board_step.specs.States.{State}
 use Rattle.archive_turns.specs.Real.{lent, real, asStruct, lentTurn, Left}
 use Rattle.archive_turns.specs.Hosts.{words}

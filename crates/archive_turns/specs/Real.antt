@@ -10,7 +10,7 @@ use Rattle.base.specs.Choice.{if_then_else_}
 use Rattle.fifo.specs.Queue.{queue}
 use Rattle.machine_record.specs.declared.Board.{Board}
 use Rattle.board_step.specs.States.{State, numberAt, answerAt, afterEvent}
-use Rattle.board.specs.Begins as conversions
+use Rattle.board_laws.specs.Begins as conversions
 use Rattle.board_events.specs.declared.Event.{Event}
 use Rattle.collector_phases.specs.declared.Collector.{Collector}
 use Rattle.collector_steps.specs.declared.Taken.{Taken}

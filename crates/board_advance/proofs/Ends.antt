@@ -21,7 +21,7 @@ use Rattle.board_refusal.specs.Working.{isWorkingBoard}
 use Rattle.board_refusal.specs.Refusals.{eventChecks, checks}
 use Rattle.board_step.specs.Ways.{Opened}
 use Rattle.board_events.specs.declared.Answer.the-variants.{Refused, Done}
-use Rattle.board_advance.specs.Advance.{advancedFrom, advancedOf}
+use Rattle.board_advance.specs.Advance.{advancedOf}
 use Rattle.board_advance.specs.Strided.{heeds0, heeds2, strideAt, strideEnd, strided, unheeded}
 use Rattle.board_advance.specs.declared.Advanced.{Advanced}
 

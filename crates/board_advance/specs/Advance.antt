@@ -1,27 +1,15 @@
 -- Ticks one after another, each an event of its own, as far as the first with which the host has something to do. The specification, "Conversions, edges
 -- and requests": a tick may begin a conversion or set a request flag.
 use Prim.Native.Nat.{ℕ, zero, suc}
-use mathlib.Core.Bool.{Bool, not, _&&_, _||_}
 use mathlib.Core.List.{List}
 use lib.Dec.{eqb}
 use Rattle.base.specs.Choice.{if_then_else_}
-use Rattle.base.specs.Flags.{on}
 use Rattle.machine_record.specs.declared.Board.{Board}
+use Rattle.board_step.specs.News.{news}
 use Rattle.board_step.specs.Step.{number, stepOf, memoryAfter, eepromAfter}
 use Rattle.board_events.specs.declared.Answer.the-variants.{Refused, Done}
 use Rattle.board_events.specs.declared.Event.the-variants.{Tick}
 use Rattle.board_advance.specs.declared.Advanced.{Advanced}
-
--- ---- whether a conversion has begun, or a request flag gone up, from one record to another
-abbrev pub rose : ℕ → ℕ → Bool
-rose was is = not (on was) && on is
-
-abbrev pub news : Board → Board → Bool
-news was is =
-    rose (was .converter .converting) (is .converter .converting)
-    || rose (was .requests .flags .adint) (is .requests .flags .adint)
-    || rose (was .requests .flags .dint) (is .requests .flags .dint)
-    || rose (was .requests .flags .tint) (is .requests .flags .tint)
 
 -- ---- at most n ticks more, d done
 abbrev pub advancedFrom : ℕ → ℕ → Board → List ℕ → List ℕ → Advanced

@@ -15,7 +15,8 @@ use Rattle.board_step.specs.Ways.{Opened, opens}
 use Rattle.board_step.specs.Ticked.{tickedBoard, tick-step, tick-opens}
 use Rattle.board_events.specs.declared.Answer.the-variants.{Refused, Done}
 use Rattle.board_events.specs.declared.Event.the-variants.{Tick}
-use Rattle.board_advance.specs.Advance.{news, advancedFrom, advancedOf}
+use Rattle.board_step.specs.News.{news}
+use Rattle.board_advance.specs.Advance.{advancedFrom, advancedOf}
 use Rattle.board_advance.specs.declared.Advanced.{Advanced}
 
 -- ---- k tick events

@@ -22,7 +22,8 @@ use Rattle.machine_strides.specs.declared.Stride.{Stride}
 use Rattle.board_step.specs.Ways.{Opened, working}
 use Rattle.board_step.specs.Ticked.{tickedBoard, tick-opens}
 use Rattle.board_events.specs.declared.Answer.the-variants.{Done}
-use Rattle.board_advance.specs.Advance.{rose, news, advancedFrom}
+use Rattle.board_step.specs.News.{rose, news, not-risen}
+use Rattle.board_advance.specs.Advance.{advancedFrom}
 use Rattle.board_advance.specs.Advances.{one-tick}
 use Rattle.board_advance.specs.declared.Advanced.{Advanced}
 
@@ -51,13 +52,6 @@ strideEnd b s = record {
 }
 
 -- ---- a tick brings news where it is heard
-pub not-risen : (n : ℕ) → rose n n ≡ false
-not-risen n = by (on n)
-  where
-    by : (x : Bool) → not x && x ≡ false
-    by true = refl
-    by false = refl
-
 begins : (c : Converter) (t : Bool) → rose (c .converting) (triggered c t .converting) ≡ t && not (on (c .converting))
 begins c t = by (t && not (on (c .converting))) refl
   where

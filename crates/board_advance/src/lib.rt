@@ -1,7 +1,7 @@
 // Many ticks in one call: specs/Advance.antt says what they come to, one event after another; crates/machine_strides takes them at once where it can.
 use board_events::Answer;
 use machine::Board;
-use machine::Stride;
+use machine_strides::Stride;
 ghost use Prim.Native.Nat.{_-_};
 ghost use mathlib.Core.Path.{_≡_};
 ghost use Rattle.machine_record.specs.Working.{WorkingMachine};
@@ -51,7 +51,7 @@ fn stride(b: Board, ticks: u32) -> Stride
     ensures { λ r. ⌜ r ≡ strideAt b ticks ⌝ }
 {
     let g = machine::gates_at(b.registers.counting, b.pins.din);
-    machine::run(
+    machine_strides::run(
         b.clocks,
         b.registers.counting,
         g,

@@ -19,7 +19,6 @@ use Rattle.board_refusal.specs.Refusals.{eventChecks}
 use Rattle.board_step.specs.Act.{acted, eepromActed}
 use Rattle.board_step.specs.Step.{ran}
 use Rattle.board_step.specs.Ways.{Promised, Opened, laid, refused, done}
-use Rattle.board_step.specs.declared.Outcome.{Outcome}
 use Rattle.board_events.specs.declared.Answer.the-variants.{Refused, Byte, Word}
 use Rattle.board_events.specs.declared.Event.the-variants.{ReadByte, ReadWord}
 

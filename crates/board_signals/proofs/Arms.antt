@@ -1,12 +1,11 @@
 -- The ways out of the pins' events and of a transfer's end, over plain values. Assumes nothing.
-use mathlib.Core.Path.{_≡_, refl, sym, ap, _∙_}
+use mathlib.Core.Path.{_≡_, refl, sym, _∙_}
 use mathlib.Core.Bool.{Bool, true, false, not, _&&_}
 use mathlib.Core.List.{List}
 use Prim.Native.Nat.{ℕ, _<_, _≤_, _%_}
 use borrow.Author.Tests.{lt-ltb, le-ltb}
 use lib.Dec.{eqb}
 use Rattle.base.specs.Flags.{on, flag}
-use Rattle.fifo.specs.Queue.{queue, layout}
 use Rattle.requests.specs.Requests.{askedLatch}
 use Rattle.requests.specs.declared.Requests.{Requests}
 use Rattle.ports.specs.Ports.{pinsSet}

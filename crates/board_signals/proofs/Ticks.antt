@@ -1,9 +1,8 @@
 -- The ways out of a tick, over plain values: the counters that have a pulse, each put in its place. Assumes nothing.
-use Prim.Native.Nat.{ℕ, _≤_}
+use Prim.Native.Nat.{ℕ}
 use mathlib.Core.Path.{_≡_, refl, sym, ap, _∙_}
-use mathlib.Core.Bool.{Bool, true, false, not, _&&_, _||_}
+use mathlib.Core.Bool.{Bool, true, false, _&&_}
 use mathlib.Core.List.{List}
-use Rattle.base.specs.Choice.{if_then_else_}
 use Rattle.base.specs.Flags.{on}
 use Rattle.converter.specs.Channels.{triggered, internalTriggered}
 use Rattle.converter.specs.declared.channels.Converter.{Converter}
@@ -26,7 +25,7 @@ use Rattle.machine_tick.specs.InPlace.{pulsedIf, counter0Of, counter1Of, counte
 use Rattle.board_refusal.specs.Refusals.{eventChecks}
 use Rattle.board_step.specs.Act.{acted, eepromActed}
 use Rattle.board_step.specs.Step.{ran}
-use Rattle.board_step.specs.Ways.{Promised, Opened, working, laid, done}
+use Rattle.board_step.specs.Ways.{Promised, Opened, laid, done}
 use Rattle.board_events.specs.declared.Answer.the-variants.{Done}
 use Rattle.board_events.specs.declared.Event.the-variants.{Tick}
 

@@ -2,6 +2,7 @@ pub mod Acted
 pub mod Act
 pub mod Step
 pub mod States
+pub mod News
 pub mod Lent
 pub mod Sampled
 pub mod Passed

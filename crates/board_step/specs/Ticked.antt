@@ -1,5 +1,5 @@
 -- A tick of a working board that is not refused: what it leaves.
-use mathlib.Core.Path.{_≡_, refl, subst}
+use mathlib.Core.Path.{refl, subst}
 use mathlib.Core.List.{List}
 use Prim.Native.Nat.{ℕ}
 use Rattle.machine_record.specs.declared.Board.{Board}

@@ -1,6 +1,6 @@
 -- The ways out of an event's step: what its answer, record and memories are where a check refuses it, and where none does. Laws for the proofs of the
 -- functions that make a step, over plain values.
-use mathlib.Core.Path.{_≡_, refl, sym, _∙_}
+use mathlib.Core.Path.{_≡_, sym, _∙_}
 use mathlib.Core.Bool.{Bool, true, false, not}
 use mathlib.Core.List.{List, _∷_}
 use native.Mathlib.Omega.{arith}

@@ -5,7 +5,6 @@ use mathlib.Core.List.{List, []}
 use Prim.Native.Nat.{ℕ, _/_, _%_}
 use borrow.Author.Tests.{ne-eqb}
 use lib.Dec.{eqb}
-use Rattle.base.specs.Choice.{if_then_else_}
 use Rattle.base.specs.Checks.{refusal}
 use Rattle.base.specs.Fields.{bit}
 use Rattle.bus.specs.Place.{placeOf}
@@ -22,7 +21,7 @@ use Rattle.requests.specs.Requests.{cleared}
 use Rattle.requests.specs.declared.Requests.{Requests}
 use Rattle.calibration_registers.specs.Registers.{keyForgotten}
 use Rattle.calibration_registers.specs.declared.Calibration.{Calibration}
-use Rattle.timer.specs.Timer.{gatesMove, gatesMoved}
+use Rattle.timer.specs.Timer.{gatesMove}
 use Rattle.timer.specs.Still.{gates-still}
 use Rattle.timer.specs.Working.{WorkingTimer}
 use Rattle.timer.specs.declared.Gates.{Gates}

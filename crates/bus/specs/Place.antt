@@ -1,6 +1,5 @@
 -- What an offset names (manual, chapter 6, register map; chapter 8 for the pages).
 use Prim.Native.Nat.{ℕ}
-use mathlib.Core.Bool.{Bool}
 use lib.Dec.{eqb, leb}
 use Rattle.base.specs.Choice.{if_then_else_}
 use Rattle.ports.specs.declared.Port.the-variants.{PortA, PortB, PortC}

@@ -1,6 +1,6 @@
 -- The calibration registers (manual, 8.4, and page 3 of the register map in chapter 6; the specification, "Registers", page 3, and
 -- refusals 6, 8, 9, 10): writes, reads, what is refused, and resets.
-use mathlib.Core.Bool.{Bool, false, not, _&&_, _||_}
+use mathlib.Core.Bool.{Bool, not, _&&_, _||_}
 use mathlib.Core.List.{[], _∷_}
 use Prim.Native.Nat.{ℕ, _+_, _%_}
 use lib.Dec.{eqb}

@@ -1,7 +1,7 @@
 -- The line language of the programs that run named cases: `name: c14 w003 k0 o`, one case a line.
 use Prim.Native.Nat.{ℕ, _+_, _*_, _%_}
 use mathlib.Core.Bool.{Bool, true, false, not, _&&_, _||_}
-use lib.Dec.{eqb, leb, ltb}
+use lib.Dec.{eqb, leb}
 use Rattle.base.specs.Choice.{if_then_else_}
 use Rattle.cases.specs.declared.script.Script.{Script}
 use Rattle.cases.specs.declared.script.Step.{Step}

@@ -1,7 +1,6 @@
 -- What damages a flag of a board's record, by numbers 24 to 49 hex in the order of the record (struct dmm32_board of include/cowriestep.h):
 -- the flag of that number becomes 2, and all else stays; another number leaves the whole record.
 use Prim.Native.Nat.{ℕ, _-_}
-use mathlib.Core.Bool.{true, false}
 use lib.Dec.{eqb, ltb}
 use Rattle.base.specs.Choice.{if_then_else_}
 use Rattle.calibration_registers.specs.declared.Calibration.{Calibration}

@@ -1,7 +1,6 @@
 -- What spoils a board's record, by numbers 05 to 49 hex: 05 to 23 stand here, those of the flags in SpoiledFlags. Every spoil acts on the
 -- record as it stands and leaves all that it does not name; another number leaves the whole record.
 use Prim.Native.Nat.{ℕ}
-use mathlib.Core.Bool.{true, false}
 use lib.Dec.{eqb, ltb}
 use Rattle.base.specs.Choice.{if_then_else_}
 use Rattle.calibration_registers.specs.declared.Calibration.{Calibration}

@@ -1,6 +1,6 @@
 -- Channels, triggers and ends of conversions (manual 10.1, 11.3, 11.4, Base + 0, 8 and 9; the specification, "Conversions, edges and requests").
 -- The manual's Base + 0 page lets a software trigger start a conversion whatever the clock; its Base + 9 page and the specification do not.
-use mathlib.Core.Bool.{Bool, true, false, _&&_, _||_, not}
+use mathlib.Core.Bool.{Bool, _&&_, not}
 use Prim.Native.Nat.{ℕ, _+_}
 use lib.Dec.{leb, eqb}
 use Rattle.base.specs.Flags.{on}

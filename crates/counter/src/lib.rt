@@ -1,5 +1,4 @@
-// One counter of the 82C54, with the names that others use of it: control words and modes, counts by bytes, the counting element, the counter, many CLK pulses
-// at once.
+// One counter of the 82C54, with the names that others use of it: control words and modes, counts by bytes, the counting element, the counter.
 pub use counter_bytes::Bus;
 pub use counter_element::Count;
 pub use counter_modes::control::refuses_word;
@@ -14,13 +13,3 @@ pub use counter_one::pulse;
 pub use counter_one::pulse_working;
 pub use counter_one::read;
 pub use counter_one::write_word;
-pub use counter_pulses::Face;
-pub use counter_pulses::Pace;
-pub use counter_pulses::count_on;
-pub use counter_pulses::face_of;
-pub use counter_pulses::is_settled;
-pub use counter_pulses::leap_counter;
-pub use counter_pulses::pace_of;
-pub use counter_pulses::period_of;
-pub use counter_pulses::put_face;
-pub use counter_pulses::quiet_pulses;

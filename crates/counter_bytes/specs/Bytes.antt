@@ -1,6 +1,6 @@
 -- Counts by bytes, and the output latch OL. Data sheet (manual, chapter 19): "Write Operations", "Read Operations", "Counter Latch Command".
 use Prim.Native.Nat.{ℕ, _+_, _*_, _/_, _%_}
-use mathlib.Core.Bool.{Bool, true, false}
+use mathlib.Core.Bool.{Bool}
 use Rattle.base.specs.Flags.{on}
 use Rattle.base.specs.Choice.{if_then_else_}
 use Rattle.counter_modes.specs.declared.Format.{Format}

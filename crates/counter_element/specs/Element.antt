@@ -1,7 +1,7 @@
 -- The count register CR, the counting element CE, OUT, and loading and counting on a CLK pulse. Data sheet (manual, chapter 19): figure 3
 -- "Counter internal block diagram", "Mode Definitions", "Operation Common to All Modes".
 use Prim.Native.Nat.{ℕ, _+_, _%_}
-use mathlib.Core.Bool.{Bool, true, false, not, _&&_, _||_}
+use mathlib.Core.Bool.{Bool, not, _&&_, _||_}
 use lib.Dec.{eqb}
 use Rattle.base.specs.Flags.{on, flag}
 use Rattle.base.specs.Choice.{if_then_else_}

@@ -46,7 +46,7 @@ use Rattle.board_advance.specs.Advance.{advancedOf}
 use Rattle.machine_record.specs.declared.Board.{Board}
 use Rattle.numbers.specs.declared.ProgressNumbered.{ProgressNumbered}
 use Rattle.numbers.specs.declared.AdvancedNumbered.{AdvancedNumbered}
-use Rattle.numbers.specs.Packed.{advancedNumbered}
+use Rattle.numbers.specs.Outcomes.{advancedNumbered}
 use Rattle.machine_record.proofs.Board as Boardᴿ
 use Rattle.machine_record.proofs.Board.Laws as Boardᴸ
 use Rattle.numbers.proofs.ProgressNumbered as N

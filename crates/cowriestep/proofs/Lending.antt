@@ -52,7 +52,7 @@ use Rattle.board_step.specs.Step.{stepOf, memoryAfter, eepromAfter}
 use Rattle.machine_record.specs.declared.Board.{Board}
 use Rattle.board_events.specs.declared.Event.{Event}
 use Rattle.numbers.specs.declared.Numbered.{Numbered}
-use Rattle.numbers.specs.Packed.{numberedOf}
+use Rattle.numbers.specs.Outcomes.{numberedOf}
 use Rattle.numbers.specs.Lengths.{refused2, lengths-tested}
 use Rattle.board_stores.specs.Stores.{wrongLengths}
 use Rattle.machine_record.proofs.Board as Boardᴿ

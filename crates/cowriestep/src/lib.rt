@@ -3,7 +3,8 @@
 // value and stores what comes back; `dmm32_advance` calls that of many ticks.
 ghost use Rattle.board_step.specs.Lent.{Stepped};
 ghost use Rattle.board_advance.specs.Lent.{Moved};
-ghost use Rattle.numbers.specs.Packed.{answerNumber, progressNumbered};
+ghost use Rattle.numbers_answers.specs.Packed.{answerNumber};
+ghost use Rattle.numbers.specs.Outcomes.{progressNumbered};
 use board::Board;
 use board::Event;
 use board::Port;

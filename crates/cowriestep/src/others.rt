@@ -2,10 +2,10 @@
 use board::Board;
 use collector::Collector;
 use collector::Settings;
-use numbers::TakenAnswer;
-use numbers::collecting::AccessNamed;
-use numbers::collecting::BusNumbers;
-use numbers::collecting::StartAnswer;
+use numbers_collector::AccessNamed;
+use numbers_collector::BusNumbers;
+use numbers_collector::StartAnswer;
+use numbers_collector::TakenAnswer;
 ghost use mathlib.Core.Path.{_≡_};
 ghost use lib.ListN.{length};
 ghost use Rattle.requests.specs.Requests.{asking};
@@ -18,9 +18,9 @@ ghost use Rattle.collector_phases.specs.Accesses.{accessOf};
 ghost use Rattle.collector_replies.specs.Reply.{told};
 ghost use Rattle.collector_phases.specs.Fit.{fit};
 ghost use Rattle.samples.specs.Scans.{wholeScans};
-ghost use Rattle.numbers.specs.Packed.{answerNumber};
+ghost use Rattle.numbers_answers.specs.Packed.{answerNumber};
 ghost use Rattle.numbers.specs.Boards.{freshOf};
-ghost use Rattle.numbers.specs.Collecting.{startAnswer, accessNamed, busAnswer, takenAnswer};
+ghost use Rattle.numbers_collector.specs.Collecting.{startAnswer, accessNamed, busAnswer, takenAnswer};
 
 // A fresh board's record, for jumpers 0 to 3; any other number makes a record that is no working board's. Zero scale: 0 is no.
 #[no_mangle]
@@ -77,7 +77,7 @@ pub extern "C" fn dmm32_due(before: Board, after: Board) -> u32
 pub extern "C" fn dmm32_collector_start(settings: Settings) -> StartAnswer
     ensures { λ r. ⌜ r ≡ startAnswer (started settings) ⌝ }
 {
-    numbers::collecting::start(settings)
+    numbers_collector::start(settings)
 }
 
 // Whether the record is fit.
@@ -93,7 +93,7 @@ pub extern "C" fn dmm32_collector_is_fit(c: Collector) -> bool
 pub extern "C" fn dmm32_collector_access(c: Collector) -> AccessNamed
     ensures { λ r. ⌜ r ≡ accessNamed (accessOf c) ⌝ }
 {
-    numbers::collecting::access(c)
+    numbers_collector::access(c)
 }
 
 // Takes what came of that access.
@@ -101,7 +101,7 @@ pub extern "C" fn dmm32_collector_access(c: Collector) -> AccessNamed
 pub extern "C" fn dmm32_collector_take(c: Collector, brought: BusNumbers) -> TakenAnswer
     ensures { λ r. ⌜ r ≡ takenAnswer (told c (busAnswer brought)) ⌝ }
 {
-    numbers::collecting::take(c, brought)
+    numbers_collector::take(c, brought)
 }
 
 // How many of the samples, from the front, are the part that holds whole scans.
@@ -109,5 +109,5 @@ pub extern "C" fn dmm32_collector_take(c: Collector, brought: BusNumbers) -> Tak
 pub extern "C" fn dmm32_whole_scans(samples: &[i16], low: u32, high: u32) -> usize
     ensures { λ r. ⌜ r ≡ length (wholeScans (now (samples .entry)) low high) ⌝ }
 {
-    numbers::collecting::whole_length(samples, low, high)
+    numbers_collector::whole_length(samples, low, high)
 }

@@ -45,13 +45,13 @@ use denote.Triple.Call.{calls-at}
 use Rattle.archive_turns.specs.Real.{turnedIn, lentTurn}
 use Rattle.machine_record.specs.declared.Board.{Board}
 use Rattle.collector_phases.specs.declared.Collector.{Collector}
-use Rattle.numbers.specs.declared.TakenAnswer.{TakenAnswer}
+use Rattle.numbers_collector.specs.declared.TakenAnswer.{TakenAnswer}
 use Rattle.numbers.specs.declared.TurnNumbered.{TurnNumbered}
 use Rattle.numbers.specs.Turning.{turnNumbered}
 use Rattle.machine_record.proofs.Board as Boardᴿ
 use Rattle.machine_record.proofs.Board.Laws as Boardᴸ
-use Rattle.numbers.proofs.TakenAnswer as N
-use Rattle.numbers.proofs.TakenAnswer.Laws as N′
+use Rattle.numbers_collector.proofs.TakenAnswer as N
+use Rattle.numbers_collector.proofs.TakenAnswer.Laws as N′
 use Rattle.numbers.proofs.TurnNumbered as O
 use Rattle.numbers.proofs.TurnNumbered.Laws as O′
 

@@ -1,6 +1,5 @@
 -- The specification's marked case 2, for the record of the sample memory: 512 held, one more end, a read. Proved by computing.
 use mathlib.Core.Path.{_≡_, refl}
-use mathlib.Core.Bool.{false}
 use Rattle.fifo.specs.declared.Fifo.{Fifo}
 use Rattle.fifo.specs.Flags.{flagBits}
 use Rattle.fifo.specs.Queue.{pushedTo, poppedFrom}

@@ -1,5 +1,4 @@
-// The board's record, with the names that others use of it: the record; its gates and a timer that moves; a tick, many ticks of the clocks, pins, resets; what
-// a host has to act on.
+// The board's record, with the names that others use of it: the record; its gates and a timer that moves; a tick, pins, resets; what a host has to act on.
 pub use machine_clock::gates_at;
 pub use machine_clock::gates_of;
 pub use machine_clock::move_timer_by;
@@ -19,8 +18,6 @@ pub use machine_record::is_working;
 pub use machine_record::single_ended;
 pub use machine_reset::is_reset;
 pub use machine_reset::reset_board;
-pub use machine_strides::Stride;
-pub use machine_strides::run;
 pub use machine_tick::clocks_0;
 pub use machine_tick::clocks_1;
 pub use machine_tick::next_tick;

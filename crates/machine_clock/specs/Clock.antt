@@ -1,7 +1,7 @@
 -- The gates of the counters, and a timer that moves (manual, Base+10 and 17.1; the specification, "Conversions, edges and requests").
 -- Base+10 is FREQ12 FREQ0 OUT2EN OUT0EN RSVD GT0EN SRC0 GT12EN.
 use Prim.Native.Nat.{ℕ}
-use mathlib.Core.Bool.{false, not, _||_}
+use mathlib.Core.Bool.{not, _||_}
 use Rattle.base.specs.Flags.{on}
 use Rattle.base.specs.Fields.{bit}
 use Rattle.converter.specs.Channels.{internalTriggered}

@@ -1,6 +1,5 @@
 -- The gates, a timer that moves and a write of Base+10 keep a working board working.
 use Prim.Native.Nat.{ℕ}
-use mathlib.Core.Bool.{false}
 use Rattle.base.specs.Flags.{on}
 use Rattle.requests.specs.Working as requests
 use Rattle.converter.specs.Working as converter

@@ -1,7 +1,7 @@
 -- The pins keep a working board working.
 use Prim.Native.Nat.{ℕ, _≤_}
 use mathlib.Core.Path.{refl}
-use mathlib.Core.Bool.{Bool, false, not, _&&_}
+use mathlib.Core.Bool.{Bool, not, _&&_}
 use Rattle.base.specs.Flags.{on, flag-le}
 use Rattle.requests.specs.Working as requests
 use Rattle.converter.specs.Working as converter

@@ -1,6 +1,6 @@
 -- Pins (manual, Base+4, Base+9, Base+10 and 16.5; the specification, "Conversions, edges and requests").
 use Prim.Native.Nat.{ℕ}
-use mathlib.Core.Bool.{Bool, false, not, _&&_}
+use mathlib.Core.Bool.{Bool, not, _&&_}
 use Rattle.base.specs.Flags.{on, flag}
 use Rattle.base.specs.Fields.{bit}
 use Rattle.converter.specs.Channels.{externalTriggered}

@@ -18,7 +18,7 @@ use Rattle.machine_strides.specs.Lines.{reachIn, stretched}
 use Rattle.machine_strides.specs.Bursts.{least, least-le}
 use Rattle.machine_strides.specs.Strides.{Skips, Skipped, none-skipped, skips-on}
 use Rattle.machine_strides.specs.Cascades.{ticks0, ticks1}
-use Rattle.machine_strides.specs.Leaps.{reach0, reach1, leapt, cycled, leap-skips, cycle-skips}
+use Rattle.machine_strides.specs.Leaps.{reach0, leapt, cycled, leap-skips, cycle-skips}
 use Rattle.machine_strides.specs.Settled.{settledFor, facedAt}
 use Rattle.machine_strides.specs.Kept.{skipped-work}
 use Rattle.counter_pulses.specs.Faces.{settled, faced}

@@ -1,12 +1,10 @@
 -- Ticks in which OUT1 may fall and clock counter 2 (manual, 17.1), but neither OUT0 nor OUT2 falls: where each counter is after them.
-use Prim.Native.Nat.{ℕ, zero, suc, _+_, _≤_, _<_, _%_}
+use Prim.Native.Nat.{ℕ, zero, suc, _+_, _≤_, _%_}
 use native.Mathlib.Omega.{arith}
 use mathlib.Core.Path.{_≡_, refl, sym, ap, _∙_, subst}
 use mathlib.Core.Bool.{Bool, true, false}
-use Rattle.base.specs.Choice.{if_then_else_}
 use Rattle.base.specs.Fields.{bit}
 use Rattle.base.specs.Flags.{on}
-use Rattle.counter_one.specs.Counter.{pulsed}
 use Rattle.counter_one.specs.declared.Counter.{Counter}
 use Rattle.counter_one.specs.Falls.{fell, no-fall}
 use Rattle.timer.specs.declared.Gates.{Gates}

@@ -1,6 +1,6 @@
 -- Ticks keep a working board's clocks working.
 use Prim.Native.Nat.{ℕ, zero, suc}
-use mathlib.Core.Path.{_≡_, subst}
+use mathlib.Core.Path.{subst}
 use mathlib.Core.Bool.{Bool}
 use Rattle.base.specs.Flags.{on}
 use Rattle.base.specs.Laws.{by-choice}

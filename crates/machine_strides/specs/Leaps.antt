@@ -1,11 +1,8 @@
 -- Ticks that are taken at once: those in which counts alone move, and whole periods of counter 1.
-use Prim.Native.Nat.{ℕ, zero, suc, _+_, _*_, _≤_}
+use Prim.Native.Nat.{ℕ, _*_, _≤_}
 use native.Mathlib.Omega.{arith}
-use mathlib.Core.Path.{_≡_, refl, sym, ap, _∙_, subst}
-use mathlib.Core.Bool.{Bool, true, false}
-use borrow.Author.Tests.{leb-true, leb-false}
-use lib.Dec.{leb}
-use Rattle.base.specs.Choice.{if_then_else_}
+use mathlib.Core.Path.{_≡_, sym, ap, _∙_, subst}
+use mathlib.Core.Bool.{false}
 use Rattle.base.specs.Fields.{bit}
 use Rattle.timer.specs.declared.Gates.{Gates}
 use Rattle.machine_record.specs.Working.{WorkingClocks}

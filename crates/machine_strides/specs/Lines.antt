@@ -1,6 +1,6 @@
 -- The CLK pulses that some ticks bring to counter 0 or 1: none while its clock is stopped, one in every tick, or one each time that its divider comes
 -- round (manual, Base+10 and 17.1). A divider that counts to `last` is at h; one law holds for both, of 100 and of 1,000 ticks.
-use Prim.Native.Nat.{ℕ, zero, suc, _+_, _-_, _*_, _≤_, _<_, _/_, _%_}
+use Prim.Native.Nat.{ℕ, suc, _+_, _-_, _*_, _≤_, _<_, _/_, _%_}
 use native.Mathlib.Omega.{arith}
 use native.Mathlib.Nat.{add-div-left, add-mod-left, div-eq-of-lt, mod-eq-of-lt, div-lt-iff-lt-mul, mul-le-mul-right, add-mul-div-right, mul-assoc}
 use mathlib.Core.Path.{_≡_, refl, sym, ap, _∙_}

@@ -1,7 +1,7 @@
 // Ticks of a working board's clocks, many in one call: specs/Strides.antt. Ticks in which counts alone move, and whole periods of counter 1, are taken at once
 // (skips.rt); any other is one tick, mostly by the counts and OUTs of counters 1 and 2 alone (specs/Settled.antt). `counting` is the byte of Base+10.
-use counter::Face;
-use counter::Pace;
+use counter_pulses::Face;
+use counter_pulses::Pace;
 use machine_record::Clocks;
 use timer::Gates;
 ghost use mathlib.Core.Path.{_≡_};
@@ -27,10 +27,10 @@ fn is_settled(l: Clocks, counting: u8, g: Gates, ticks: u32) -> bool
     requires { ⌜ WorkingClocks l ⌝ }
     ensures { λ r. ⌜ r ≡ settledFor counting g ticks l ⌝ }
 {
-    let q0 = counter::quiet_pulses(l.timer.counter0, g.gate0);
+    let q0 = counter_pulses::quiet_pulses(l.timer.counter0, g.gate0);
     let near = ticks as u64 <= skips::reach_0(counting, l.thousand, q0);
-    let settled1 = counter::is_settled(l.timer.counter1);
-    let settled2 = counter::is_settled(l.timer.counter2);
+    let settled1 = counter_pulses::is_settled(l.timer.counter1);
+    let settled2 = counter_pulses::is_settled(l.timer.counter2);
     near & !(counting / 128 % 2 == 1) & settled1 & settled2
 }
 
@@ -38,7 +38,11 @@ fn is_settled(l: Clocks, counting: u8, g: Gates, ticks: u32) -> bool
 fn count_if(pulse: bool, p: Pace, f: Face) -> Face
     ensures { λ r. ⌜ r ≡ (if pulse then faceCounted p f else f) ⌝ }
 {
-    if pulse { counter::count_on(p, f) } else { f }
+    if pulse {
+        counter_pulses::count_on(p, f)
+    } else {
+        f
+    }
 }
 
 // The clocks some ticks on, with these faces of counters 1 and 2.
@@ -48,9 +52,9 @@ fn put_faces(l: Clocks, counting: u8, g: Gates, ticks: u32, f1: Face, f2: Face) 
 {
     let p0 = skips::pulses_0(counting, l.thousand, ticks);
     let mut t = l.timer;
-    t.counter0 = counter::leap_counter(l.timer.counter0, g.gate0, p0);
-    t.counter1 = counter::put_face(l.timer.counter1, f1);
-    t.counter2 = counter::put_face(l.timer.counter2, f2);
+    t.counter0 = counter_pulses::leap_counter(l.timer.counter0, g.gate0, p0);
+    t.counter1 = counter_pulses::put_face(l.timer.counter1, f1);
+    t.counter2 = counter_pulses::put_face(l.timer.counter2, f2);
     Clocks {
         timer: t,
         hundred: skips::divider_after(l.hundred, 99, ticks),
@@ -63,15 +67,15 @@ fn tick_faces(l: Clocks, counting: u8, g: Gates, heard2: bool, ticks: u32) -> St
     requires { ⌜ Settled counting g ticks l ⌝ }
     ensures { λ r. ⌜ StrideAnyway counting g heard2 ticks l r ⌝ }
 {
-    let p1 = counter::pace_of(l.timer.counter1, g.gate12);
-    let p2 = counter::pace_of(l.timer.counter2, g.gate12);
-    let mut f1 = counter::face_of(l.timer.counter1);
-    let mut f2 = counter::face_of(l.timer.counter2);
+    let p1 = counter_pulses::pace_of(l.timer.counter1, g.gate12);
+    let p2 = counter_pulses::pace_of(l.timer.counter2, g.gate12);
+    let mut f1 = counter_pulses::face_of(l.timer.counter1);
+    let mut f2 = counter_pulses::face_of(l.timer.counter2);
     let mut done: u32 = 0;
     while done < ticks {
         let was1 = f1.out == 1;
         let was2 = f2.out == 1;
-        f1 = counter::count_on(p1, f1);
+        f1 = counter_pulses::count_on(p1, f1);
         f2 = count_if(timer::has_fallen(was1, f1.out == 1), p2, f2);
         done += 1;
         let fell2 = timer::has_fallen(was2, f2.out == 1);

@@ -110,8 +110,8 @@ fn leap(l: Clocks, counting: u8, g: Gates, ticks: u32) -> Clocks
     let p0 = pulses_0(counting, l.thousand, ticks);
     let p1 = pulses_1(counting, l.hundred, ticks);
     let mut t = l.timer;
-    t.counter0 = counter::leap_counter(l.timer.counter0, g.gate0, p0);
-    t.counter1 = counter::leap_counter(l.timer.counter1, g.gate12, p1);
+    t.counter0 = counter_pulses::leap_counter(l.timer.counter0, g.gate0, p0);
+    t.counter1 = counter_pulses::leap_counter(l.timer.counter1, g.gate12, p1);
     Clocks {
         timer: t,
         hundred: divider_after(l.hundred, 99, ticks),
@@ -124,8 +124,8 @@ fn leap_some(l: Clocks, counting: u8, g: Gates, left: u32) -> Skip
     requires { ⌜ WorkingClocks l ⌝ }
     ensures { λ r. ⌜ Skipped counting g l left r ⌝ }
 {
-    let q0 = counter::quiet_pulses(l.timer.counter0, g.gate0);
-    let q1 = counter::quiet_pulses(l.timer.counter1, g.gate12);
+    let q0 = counter_pulses::quiet_pulses(l.timer.counter0, g.gate0);
+    let q1 = counter_pulses::quiet_pulses(l.timer.counter1, g.gate12);
     let near = at_most(reach_0(counting, l.thousand, q0), left);
     let ticks = at_most(reach_1(counting, l.hundred, q1), near);
     if ticks == 0 {
@@ -144,8 +144,8 @@ fn cycle(l: Clocks, counting: u8, g: Gates, n: u32, ticks: u32) -> Clocks
 {
     let p0 = pulses_0(counting, l.thousand, ticks);
     let mut t = l.timer;
-    t.counter0 = counter::leap_counter(l.timer.counter0, g.gate0, p0);
-    t.counter2 = counter::leap_counter(l.timer.counter2, g.gate12, n);
+    t.counter0 = counter_pulses::leap_counter(l.timer.counter0, g.gate0, p0);
+    t.counter2 = counter_pulses::leap_counter(l.timer.counter2, g.gate12, n);
     Clocks {
         timer: t,
         hundred: divider_after(l.hundred, 99, ticks),
@@ -158,8 +158,8 @@ fn cycle_some(l: Clocks, counting: u8, g: Gates, left: u32) -> Skip
     requires { ⌜ WorkingClocks l ⌝ }
     ensures { λ r. ⌜ Skipped counting g l left r ⌝ }
 {
-    let q2 = counter::quiet_pulses(l.timer.counter2, g.gate12);
-    let p = counter::period_of(l.timer.counter1, g.gate12);
+    let q2 = counter_pulses::quiet_pulses(l.timer.counter2, g.gate12);
+    let p = counter_pulses::period_of(l.timer.counter1, g.gate12);
     let s = stretch(p, counting);
     if (q2 == 0) | (s == 0) | (left < s) {
         return Skip {
@@ -167,7 +167,7 @@ fn cycle_some(l: Clocks, counting: u8, g: Gates, left: u32) -> Skip
             ticks: 0,
         };
     }
-    let q0 = counter::quiet_pulses(l.timer.counter0, g.gate0);
+    let q0 = counter_pulses::quiet_pulses(l.timer.counter0, g.gate0);
     let near = at_most(reach_0(counting, l.thousand, q0), left);
     let n = at_most(q2 as u64, near / s);
     let ticks = n * s;

@@ -1,6 +1,6 @@
 -- The ways out of a tick of the clocks, over plain values: counter 1 has no pulse, or one in which OUT1 stays or falls. Assumes nothing.
 use Prim.Native.Nat.{ℕ}
-use mathlib.Core.Path.{_≡_, refl, sym, ap, _∙_}
+use mathlib.Core.Path.{_≡_, sym, ap, _∙_}
 use mathlib.Core.Bool.{Bool, true, false}
 use Rattle.base.specs.Flags.{on}
 use Rattle.counter_one.specs.Counter.{pulsed}

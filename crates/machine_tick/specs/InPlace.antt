@@ -1,7 +1,7 @@
 -- A tick, part by part: the counters with the dividers, TINT, the trigger and DACBUSY. What "counter 0, counter 1, counter 2, then DACBUSY" leaves of each.
 use Prim.Native.Nat.{ℕ, _≤_}
 use mathlib.Core.Path.{_≡_, refl, ap, _∙_}
-use mathlib.Core.Bool.{Bool, true, false, not, _&&_, _||_}
+use mathlib.Core.Bool.{Bool, true, false, _&&_, _||_}
 use Rattle.base.specs.Choice.{if_then_else_}
 use Rattle.base.specs.Flags.{on, flag, flag-on, flag-le}
 use Rattle.converter.specs.Channels.{internalTriggered}

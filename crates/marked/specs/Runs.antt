@@ -13,7 +13,7 @@ use Rattle.machine_record.specs.Parts.{withFifo}
 use Rattle.machine_record.specs.declared.Board.{Board}
 use Rattle.machine_record.specs.declared.Jumpers.the-variants.{A}
 use Rattle.board_step.specs.States.{State, answerAt, afterEvent}
-use Rattle.board.specs.Stretches.{afterEvents, freshState}
+use Rattle.board_laws.specs.Stretches.{afterEvents, freshState}
 use Rattle.board_events.specs.declared.Answer.{Answer}
 use Rattle.board_events.specs.declared.Event.{Event}
 use Rattle.board_events.specs.declared.Event.the-variants.{WriteByte, ConversionEnd, Tick}

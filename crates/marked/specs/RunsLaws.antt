@@ -12,12 +12,12 @@ use Rattle.machine_record.specs.Fresh.{freshBoard}
 use Rattle.machine_record.specs.Kept.{fresh-working, same-working}
 use Rattle.machine_record.specs.declared.Board.{Board}
 use Rattle.machine_record.specs.declared.Jumpers.the-variants.{A}
-use Rattle.board.specs.Held.{Held, heldAnswer, happened, heldIn, step-held}
+use Rattle.board_laws.specs.Held.{Held, heldAnswer, happened, heldIn, step-held}
 use Rattle.board_events.specs.declared.Answer.{Answer}
 use Rattle.board_events.specs.declared.Event.{Event}
 use Rattle.board_step.specs.States.{State, Works, answerAt, afterEvent}
-use Rattle.board.specs.Stretches.{afterEvents}
-use Rattle.board.specs.StretchSteps.{works-on, fresh-state-works}
+use Rattle.board_laws.specs.Stretches.{afterEvents}
+use Rattle.board_laws.specs.StretchSteps.{works-on, fresh-state-works}
 use Rattle.marked.specs.Runs.{fresh, fullFifo, full, answers, shownAfter}
 
 -- ---- both boards work

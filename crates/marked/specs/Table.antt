@@ -26,9 +26,9 @@ use Rattle.bus.specs.Registers.{writeChecks, writtenAt, writeEffect, readChecks
 use Rattle.board_step.specs.Act.{acted, eepromActed}
 use Rattle.board_refusal.specs.Refusals.{eventChecks}
 use Rattle.board_step.specs.Step.{ran}
-use Rattle.board.specs.Held.{heldAnswer, happened}
+use Rattle.board_laws.specs.Held.{heldAnswer, happened}
 use Rattle.board_step.specs.States.{Works}
-use Rattle.board.specs.Stretches.{afterEvents}
+use Rattle.board_laws.specs.Stretches.{afterEvents}
 use Rattle.board_events.specs.declared.Answer.the-variants.{Done, Byte, Word}
 use Rattle.board_events.specs.declared.Event.{Event}
 use Rattle.board_events.specs.declared.Event.the-variants.{WriteByte, ReadByte, ReadWord, ConversionEnd, Tick}

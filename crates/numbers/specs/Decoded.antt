@@ -17,33 +17,15 @@ use Rattle.board_events.specs.declared.Event.{Event}
 use Rattle.board_events.specs.declared.Event.the-variants.{Tick}
 use Rattle.board_step.specs.Step.{number, stepOf, memoryAfter, eepromAfter}
 use Rattle.board_step.specs.Lent.{Stepped}
-use Rattle.board_advance.specs.Advance.{news, advancedFrom, advancedOf}
+use Rattle.board_step.specs.News.{news}
+use Rattle.board_advance.specs.Advance.{advancedFrom, advancedOf}
 use Rattle.board_advance.specs.declared.Advanced.{Advanced}
-use Rattle.board.specs.Answers.{answer-number, valueBrought, answer-value}
-use Rattle.board.specs.Order.{refusal-bound}
-use Rattle.numbers.specs.Packed.{packed, answerNumber, kindBits, refusalIn, valueIn, decoded}
+use Rattle.board_laws.specs.Answers.{answer-number, valueBrought, answer-value}
+use Rattle.board_laws.specs.Order.{refusal-bound}
+use Rattle.numbers_answers.specs.Packed.{answerNumber, decoded}
+use Rattle.numbers_answers.specs.PackedLaws.{decoded-answer}
 use Rattle.numbers.specs.Typed.{Recorded, Sixteen}
 use Rattle.numbers.specs.TypedLaws.{value-below}
-
--- ---- what was put in comes out
-pub kind-in : (kind refusal value : ℕ) → value < 65536 → kindBits (packed kind refusal value) ≡ kind
-kind-in kind refusal value h = omega arith
-
-pub refusal-in : (kind refusal value : ℕ) → value < 65536 → refusalIn (packed kind refusal value) ≡ refusal % 32
-refusal-in kind refusal value h = omega arith
-
-pub value-in : (kind refusal value : ℕ) → value < 65536 → valueIn (packed kind refusal value) ≡ value
-value-in kind refusal value h = omega arith
-
-pub free-in : (kind refusal value : ℕ) → value < 65536 → packed kind refusal value / 65536 % 256 ≡ 0
-free-in kind refusal value h = omega arith
-
--- of any answer whose refusal is below 32 and whose value has 16 bits
-pub decoded-answer : (a : Answer) → refusalNumber a < 32 → valueRead a < 65536 → decoded (answerNumber a) ≡ a
-decoded-answer Done r v = refl
-decoded-answer (Byte x) r v = rw (kind-in 1 0 x v, value-in 1 0 x v)
-decoded-answer (Word x) r v = rw (kind-in 2 0 x v, value-in 2 0 x v)
-decoded-answer (Refused n) r v = rw (kind-in 3 n 0 v, refusal-in 3 n 0 v) (ap Refused (omega (arith, r)))
 
 -- ---- the answers of steps
 pub step-refusal : (b : Board) (memory eeprom : List ℕ) (ev : Event) → refusalNumber (stepOf b memory eeprom ev .answer) < 32

@@ -8,8 +8,8 @@ use Rattle.machine_record.specs.declared.Board.{Board}
 use Rattle.board_events.specs.declared.Event.{Event}
 use Rattle.board_stores.specs.Stores.{wrongLengths}
 use Rattle.board_refusal.specs.Refusals.{checks}
-use Rattle.board_step.specs.Step.{stepOf, memoryAfter, eepromAfter, refusedBy}
-use Rattle.numbers.specs.Packed.{numberedOf}
+use Rattle.board_step.specs.Step.{stepOf, memoryAfter, eepromAfter}
+use Rattle.numbers.specs.Outcomes.{numberedOf}
 use Rattle.numbers.specs.declared.Numbered.{Numbered}
 
 -- the record as it was, and the number of refusal 2

@@ -1,6 +1,5 @@
-pub mod Packed
+pub mod Outcomes
 pub mod Boards
-pub mod Collecting
 pub mod Turning
 pub mod Typed
 pub mod TypedLaws

@@ -77,7 +77,7 @@ use Rattle.board_events.specs.Answers.{valueRead}
 use Rattle.bus.specs.Place.{placeOf}
 use Rattle.board_step.specs.Step.{number, stepOf}
 use Rattle.board_step.specs.Passed.{all-passed}
-use Rattle.board.specs.Answers.{valueBrought, answer-value}
+use Rattle.board_laws.specs.Answers.{valueBrought, answer-value}
 use Rattle.numbers.specs.Typed.{Recorded, Sixteen}
 
 -- ---- a count that a read shows

@@ -1,21 +1,16 @@
-// The board's and the collector's answers as plain numbers and records of numbers, for hosts in other languages (include/cowriestep.h): by value,
-// so that the exported functions only pass them on.
+// The board by value, with its answers as plain numbers, for hosts in other languages (include/cowriestep.h): so that the exported functions only pass them on.
 ghost use mathlib.Core.Path.{_≡_};
-ghost use Prim.Native.Nat.{_<_};
-ghost use Rattle.board_events.specs.Answers.{refusalNumber};
 ghost use Rattle.board_stores.specs.Stores.{freshMemory, freshEeprom, storesAnswer};
-ghost use Rattle.numbers.specs.Packed.{answerNumber, decoded, numberedOf};
+ghost use Rattle.numbers_answers.specs.Packed.{answerNumber};
+ghost use Rattle.numbers.specs.Outcomes.{numberedOf};
 ghost use Rattle.numbers.specs.Boards.{byteOrAll, freshOf};
-use board::Answer;
 use board::Board;
 use board::Jumpers;
 use board::Outcome;
-use collector::Collector;
-use collector::Sample;
+use numbers_collector::TakenAnswer;
 
 pub mod stepping; // an event of each kind
 pub mod time; // many ticks
-pub mod collecting; // the collector, and whole scans
 pub mod turning; // one turn of the collector on the board
 
 // The record after an event, and its answer as one number.
@@ -39,35 +34,11 @@ pub struct AdvancedNumbered {
     pub progress: ProgressNumbered,
 }
 
-// The collector's record after an answer, the polls, and what is handed over: 0 nothing, 1 the end of a start, 2 a sample, 3 the last one of a drain, 4 a
-// refusal.
-#[repr(C)]
-pub struct TakenAnswer {
-    pub collector: Collector,
-    pub polls: u16,
-    pub handed: u8,
-    pub refusal: u8,
-    pub sample: Sample,
-}
-
 // The board's record after a turn, and what the collector answers.
 #[repr(C)]
 pub struct TurnNumbered {
     pub board: Board,
     pub taken: TakenAnswer,
-}
-
-// An answer as one number: the kind in bits 31-29, the refusal in bits 28-24, the byte or word in bits 15-0.
-pub fn number_of(answer: Answer) -> u32
-    ensures { λ r. ⌜ r ≡ answerNumber answer ⌝ }
-    ensures { λ r. ⌜ (refusalNumber answer < 32 → decoded r ≡ answer) ⌝ }
-{
-    match answer {
-        Answer::Done => 0,
-        Answer::Byte(value) => 0x20000000 + value as u32,
-        Answer::Word(value) => 0x40000000 + value as u32,
-        Answer::Refused(number) => 0x60000000 + (number % 32) as u32 * 0x1000000,
-    }
 }
 
 // What a step answers, with the answer as a number.
@@ -78,7 +49,7 @@ fn in_numbers(out: Outcome) -> Numbered
     let answer = out.answer;
     Numbered {
         board: after,
-        number: number_of(answer),
+        number: numbers_answers::number_of(answer),
     }
 }
 
@@ -106,5 +77,5 @@ pub fn fresh_stores(memory: &mut [u16], eeprom: &mut [u8]) -> u32
     ensures { λ r. ⌜ now (eeprom .exit) ≡ freshEeprom (now (memory .entry)) (now (eeprom .entry)) ⌝ }
 {
     let answer = board::fresh_stores(memory, eeprom);
-    number_of(answer)
+    numbers_answers::number_of(answer)
 }

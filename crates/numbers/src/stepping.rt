@@ -4,7 +4,7 @@ use board::Board;
 use board::Port;
 ghost use mathlib.Core.Path.{_≡_};
 ghost use Rattle.board_step.specs.Step.{stepOf, memoryAfter, eepromAfter};
-ghost use Rattle.numbers.specs.Packed.{numberedOf};
+ghost use Rattle.numbers.specs.Outcomes.{numberedOf};
 ghost use Rattle.board_events.specs.declared.Event.the-variants.{WriteByte, ReadByte, ReadWord, ConversionEnd, DinPins, LatchLevel, PortPins, Tick};
 ghost use Rattle.board_events.specs.declared.Event.the-variants.{TransferEnd};
 

@@ -5,7 +5,7 @@ use board::Advanced;
 use board::Board;
 ghost use mathlib.Core.Path.{_≡_};
 ghost use Rattle.board_advance.specs.Advance.{advancedOf};
-ghost use Rattle.numbers.specs.Packed.{advancedNumbered};
+ghost use Rattle.numbers.specs.Outcomes.{advancedNumbered};
 
 // What `advance` answers, with the answer as a number.
 fn in_numbers(out: Advanced) -> AdvancedNumbered
@@ -15,7 +15,7 @@ fn in_numbers(out: Advanced) -> AdvancedNumbered
     let made = out.progress;
     let answer = made.answer;
     let progress = ProgressNumbered {
-        answer: super::number_of(answer),
+        answer: numbers_answers::number_of(answer),
         done: made.done,
     };
     AdvancedNumbered {

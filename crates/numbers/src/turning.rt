@@ -21,7 +21,7 @@ fn in_numbers(t: Turned) -> TurnNumbered
     };
     TurnNumbered {
         board,
-        taken: super::collecting::in_numbers(taken),
+        taken: numbers_collector::in_numbers(taken),
     }
 }
 

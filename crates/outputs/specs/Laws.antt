@@ -6,13 +6,12 @@ use native.Mathlib.Omega.{arith}
 use borrow.Author.Tests.{leb-true, le-leb, ne-eqb}
 use lib.Dec.{eqb}
 use Rattle.base.specs.Flags.{on}
-use Rattle.base.specs.Choice.{if_then_else_}
 use Rattle.base.specs.Laws.{by-choice, choice-le}
 use Rattle.base.specs.Tests.{each, every}
 use Rattle.outputs.specs.declared.Codes.{Codes}
 use Rattle.outputs.specs.declared.Outputs.{Outputs}
 use Rattle.outputs.specs.Outputs.{codeOf, took, dacbusy, put, level, lsbWritten, msbWritten, updated, ticked, cleared, resetA, resetD}
-use Rattle.outputs.specs.Working.{WorkingCodes, WorkingLoad, WorkingOutputs, outputsTests, isWorkingOutputs}
+use Rattle.outputs.specs.Working.{WorkingCodes, WorkingOutputs, outputsTests, isWorkingOutputs}
 
 -- ---- the tests are the facts
 pub outputs-of : (o : Outputs) → isWorkingOutputs o ≡ true → WorkingOutputs o

@@ -1,6 +1,6 @@
 -- The analogue outputs (manual, chapters 13 and 14, and the pages of Base+4 and Base+5 in chapter 7; the specification,
 -- "Registers", 5 and 8): what each access, tick and reset makes of them.
-use mathlib.Core.Bool.{Bool, true, false, not, _&&_}
+use mathlib.Core.Bool.{Bool, not, _&&_}
 use Prim.Native.Nat.{ℕ, _+_, _-_, _*_, _/_, _%_}
 use lib.Dec.{eqb, ltb}
 use Rattle.base.specs.Flags.{on}

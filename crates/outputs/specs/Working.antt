@@ -2,7 +2,7 @@
 -- has at most 100 ticks left. The facts, and the row of tests of them, of which the code makes several at once.
 use mathlib.Core.Bool.{Bool}
 use mathlib.Core.List.{List, [], _∷_}
-use Prim.Native.Nat.{ℕ, _≤_}
+use Prim.Native.Nat.{_≤_}
 use lib.Dec.{leb}
 use Rattle.base.specs.Tests.{all}
 use Rattle.outputs.specs.declared.Codes.{Codes}

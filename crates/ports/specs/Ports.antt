@@ -1,6 +1,6 @@
 -- The digital ports, an 82C55 in mode 0 (manual, 8.2 and chapter 16, and page 1 of the register map in chapter 6; the
 -- specification, "Registers", page 1): what each access, pin and reset makes of them, and what the board drives.
-use mathlib.Core.Bool.{Bool, true, false, not}
+use mathlib.Core.Bool.{Bool, not}
 use mathlib.Core.List.{List, [], _∷_}
 use Prim.Native.Nat.{ℕ, _+_, _*_, _/_, _%_}
 use Rattle.base.specs.Choice.{if_then_else_}

@@ -1,7 +1,7 @@
 -- What is written to and read from registers 6, 7 and 9, as far as it is the requests' (manual, chapter 6 and Base + 6, 7, 9; the
 -- specification, "Registers"). Bits without a name here are ignored and read 0. Chapter 10 calls FIFORST bit 2; the map and its 0x02
 -- example have bit 1.
-use mathlib.Core.Bool.{Bool, false}
+use mathlib.Core.Bool.{Bool}
 use Prim.Native.Nat.{ℕ, _+_}
 use Rattle.base.specs.Flags.{on}
 use Rattle.base.specs.Fields.{bit, field}

@@ -1,6 +1,6 @@
 -- The request flags (manual 11.1, 11.2, Base + 6, 8 and 9; the specification, "Conversions, edges and requests").
 -- The manual's note in 11.2 has a request at the threshold inside a scan; the specification waits for the scan's last.
-use mathlib.Core.Bool.{Bool, false, _&&_, _||_, not}
+use mathlib.Core.Bool.{Bool, _&&_, _||_, not}
 use Prim.Native.Nat.{ℕ, _*_}
 use lib.Dec.{leb}
 use Rattle.base.specs.Flags.{on, flag}

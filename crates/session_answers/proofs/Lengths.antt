@@ -1,5 +1,5 @@
 -- How long an answer is, and a text of no bytes. Assumes nothing.
-use mathlib.Core.Path.{_≡_, refl}
+use mathlib.Core.Path.{refl}
 use mathlib.Core.Bool.{Bool, true, false}
 use mathlib.Core.List.{List, [], _∷_, _++_}
 use Prim.Native.Nat.{ℕ, _+_, _≤_}
@@ -7,7 +7,7 @@ use native.Mathlib.Omega.{arith}
 use lib.ListN.{length, length-append}
 use Rattle.board_events.specs.declared.Answer.{Answer}
 use Rattle.board_events.specs.declared.Answer.the-variants.{Done, Byte, Word, Refused}
-use Rattle.session_text.specs.Text.{Wrote, byteText, wordText, decimalText}
+use Rattle.session_text.specs.Text.{Wrote, decimalText}
 use Rattle.session_text.proofs.Writing.{decimal-length}
 use Rattle.session_answers.specs.Answers.{answerText, irqText, refusedText, newline, eventText, badText}
 

@@ -1,5 +1,4 @@
 // What a line is answered by, written at a place of a lent slice.
-ghost use mathlib.Core.Path.{_≡_};
 ghost use Prim.Native.Nat.{_+_, _≤_};
 ghost use lib.ListN.{length};
 ghost use Rattle.session_text.specs.Text.{Wrote};

@@ -1,14 +1,14 @@
 -- The ways of `advance` and the loop of `feed`, over plain values. Assumes nothing.
-use mathlib.Core.Path.{_≡_, refl, ap, sym, _∙_, subst}
+use mathlib.Core.Path.{_≡_, refl, ap, sym, _∙_}
 use mathlib.Core.Bool.{true, false}
 use lib.Dec.{eqb}
 use mathlib.Core.List.{List, [], _∷_, _++_, append-nil}
 use Prim.Native.Nat.{ℕ, suc, _+_, _-_, _≤_, _<_}
 use native.Mathlib.Omega.{arith}
 use borrow.Author.Tests.{le-leb, lt-leb}
-use lib.ListN.{length, take, drop, getD, take-append-drop, length-append, drop-of-length-le}
+use lib.ListN.{length, take, drop, take-append-drop, drop-of-length-le}
 use lib.Seq.{slice, take-take, length-take-le, drop-append-le, length-slice}
-use Rattle.session_reading.specs.Reading.{taken, readFrom}
+use Rattle.session_reading.specs.Reading.{taken}
 use Rattle.session_reading.specs.Found.{plain, Found}
 use Rattle.session_reading.specs.declared.Line.{Line}
 use Rattle.session_reading.proofs.Scanning.{slice-more, plain-cons}

@@ -1,10 +1,8 @@
 // A session: the text of standard input, fed piece by piece, and what is printed for it. The state is a record by value; what is printed is
 // written to a lent slice.
-ghost use mathlib.Core.Path.{_≡_};
 ghost use Prim.Native.Nat.{_<_, _≤_, _-_};
 ghost use lib.ListN.{length};
-ghost use lib.Seq.{slice};
-ghost use Rattle.session_talk.specs.Session.{Talk, talkOf};
+ghost use Rattle.session_talk.specs.Session.{talkOf};
 ghost use Rattle.session_feed.specs.Feeding.{Advanced, Ran};
 pub use session_talk::Session;
 pub use session_talk::begin;

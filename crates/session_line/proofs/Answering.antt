@@ -1,5 +1,5 @@
 -- The ways of `happen`, `refuse` and `answer_line`, over plain values. Assumes nothing.
-use mathlib.Core.Path.{_≡_, refl, ap, sym, _∙_, subst}
+use mathlib.Core.Path.{_≡_, ap}
 use mathlib.Core.Bool.{Bool, not, _&&_}
 use mathlib.Core.List.{List}
 use Prim.Native.Nat.{ℕ, _≤_}
@@ -13,11 +13,11 @@ use Rattle.session_text.specs.Text.{Wrote}
 use Rattle.session_reading.specs.declared.Reading.the-variants.{Blank}
 use Rattle.session_text.proofs.Writing.{wrote-as}
 use Rattle.requests.specs.Requests.{asking}
-use Rattle.session_answers.specs.Answers.{eventText, badText}
+use Rattle.session_answers.specs.Answers.{eventText}
 use Rattle.session_answers.proofs.Lengths.{event-length, bad-length}
 use Rattle.session_talk.specs.Session.{Talk, talkOf, counted}
 use Rattle.session_talk.specs.Wanted.{wantedBy}
-use Rattle.session_line.specs.Done.{raised, doneBy, saidBy, lineDone, lineSaid, Answers, Happened, NotCommanded, Done}
+use Rattle.session_line.specs.Done.{raised, saidBy, lineDone, lineSaid, Happened, NotCommanded, Done}
 use Rattle.session_talk.specs.declared.Wanted.{Wanted}
 use Rattle.session_talk.specs.declared.Wanted.the-variants.{Nothing, Happen}
 use Rattle.session_line.specs.declared.Answered.{Answered}

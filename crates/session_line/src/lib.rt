@@ -1,5 +1,5 @@
 // One line that was read is answered.
-ghost use Prim.Native.Nat.{_+_, _≤_, _-_};
+ghost use Prim.Native.Nat.{_≤_, _-_};
 ghost use lib.ListN.{length};
 ghost use Rattle.session_talk.specs.Session.{talkOf};
 ghost use Rattle.session_line.specs.Done.{Done, Happened, NotCommanded};

@@ -1,5 +1,5 @@
 -- A line read byte after byte: what is kept of it.
-use Prim.Native.Nat.{ℕ, _+_, _*_, _%_}
+use Prim.Native.Nat.{ℕ, _+_, _*_}
 use mathlib.Core.List.{List, [], _∷_}
 use lib.Dec.{eqb, leb, ltb}
 use Rattle.base.specs.Fields.{lowest}

@@ -2,7 +2,7 @@
 ghost use mathlib.Core.Path.{_≡_};
 ghost use Rattle.session_talk.specs.Session.{beginning, begun};
 ghost use Rattle.session_talk.specs.Wanted.{wantedBy};
-use board::Event;
+use board_events::Event;
 use machine::Board;
 use session_commands::Command;
 use session_reading::Reading;

@@ -1,5 +1,4 @@
 // Text written into a lent slice: each function gets the place to write at and answers the place after it.
-ghost use mathlib.Core.Path.{_≡_};
 ghost use Prim.Native.Nat.{_+_, _≤_};
 ghost use lib.ListN.{length};
 ghost use Rattle.session_text.specs.Text.{byteText, wordText, decimalText, Spells, Wrote};

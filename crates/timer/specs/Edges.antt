@@ -1,6 +1,6 @@
 -- What makes no edge. The specification: writing 10, or a reset, "may move a gate but is no clock edge or trigger".
 use mathlib.Core.Path.{_≡_}
-use mathlib.Core.Bool.{Bool, false}
+use mathlib.Core.Bool.{false}
 use Rattle.counter_one.specs.Edges.{gate-no-fall}
 use Rattle.counter_one.specs.Falls.{fell}
 use Rattle.timer.specs.Timer.{out, gatesMoved}

@@ -1,14 +1,11 @@
 -- Each clock and each move of the gates keeps a working timer working.
-use mathlib.Core.Path.{_≡_, refl}
 use mathlib.Core.Bool.{Bool}
-use Rattle.base.specs.Choice.{if_then_else_}
 use Rattle.base.specs.Laws.{by-choice}
-use Rattle.counter_one.specs.Counter.{pulsed}
 use Rattle.counter_one.specs.Working.{WorkingCounter}
 use Rattle.counter_one.specs.Kept.{unprogrammed-works, pulsed-works, gate-moved-works}
 use Rattle.counter_one.specs.declared.Counter.{Counter}
 use Rattle.counter_one.specs.Falls.{fell}
-use Rattle.timer.specs.Timer.{unprogrammedTimer, counterOf, gateOf, out, put, cascaded, moved, clocked, clockedIf, gatesMoved}
+use Rattle.timer.specs.Timer.{unprogrammedTimer, counterOf, gateOf, out, put, cascaded, moved, clockedIf, gatesMoved}
 use Rattle.timer.specs.Working.{WorkingTimer}
 use Rattle.timer.specs.declared.Timer.{Timer}
 use Rattle.timer.specs.declared.Gates.{Gates}

@@ -1,5 +1,5 @@
 -- A working board's timer whose gates keep their levels stays as it is.
-use mathlib.Core.Path.{_≡_, refl, sym, ap, _∙_}
+use mathlib.Core.Path.{_≡_, refl, sym}
 use mathlib.Core.Bool.{Bool, true, false, not, _&&_, _||_}
 use Rattle.base.specs.Laws.{never}
 use Rattle.counter_one.specs.Still.{gate-still}

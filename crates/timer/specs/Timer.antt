@@ -1,7 +1,7 @@
 -- Three counters. Manual, 17.1: "Counters 1 and 2 are cascaded together ... The output of counter 1 provides the input for counter 2";
 -- counter 0 has a gate of its own, counters 1 and 2 share one. The specification: "A falling OUT1 clocks counter 2, whether a tick or a write
 -- caused it."
-use mathlib.Core.Bool.{Bool, true, false, not, _&&_, _||_}
+use mathlib.Core.Bool.{Bool, not, _&&_, _||_}
 use Rattle.base.specs.Flags.{on}
 use Rattle.base.specs.Choice.{if_then_else_}
 use Rattle.counter_one.specs.Falls.{fell}

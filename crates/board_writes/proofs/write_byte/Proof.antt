@@ -1,6 +1,6 @@
 -- `board_writes::write_byte` meets its contract, by a law for each way out. Assumes nothing. Written by tools/ways.py.
 use borrow.Author.Needs.{needs}
-use mathlib.Core.Path.{refl, sym, ap, _∙_}
+use mathlib.Core.Path.{refl, sym, _∙_}
 use borrow.Author.Tests.{ne-eqb}
 use Rattle.bus.specs.Registers.{writeChecks, writtenAt, writeEffect}
 use Rattle.machine_clock.specs.Clock.{countingWritten}

@@ -1,5 +1,4 @@
 -- `counter_pulses::pace_of` meets its contract, by a law for each way out. Assumes nothing. Written by tools/ways.py.
-use borrow.Author.Needs.{needs}
 use Rattle.counter_pulses.proofs.Parts as parts
 use Rattle.counter_pulses.proofs.pace_of.Statement.{statement}
 use Rattle.counter_pulses.proofs.pace_of.Tie as tie

@@ -40,8 +40,8 @@ use Rattle.collector_phases.proofs.Collector as Collectorᴿ
 use Rattle.collector_phases.proofs.Collector.Laws as Collectorᴸ
 use Rattle.machine_record.proofs.Board as Boardᴿ
 use Rattle.machine_record.proofs.Board.Laws as Boardᴸ
-use Rattle.numbers.proofs.TakenAnswer as N
-use Rattle.numbers.proofs.TakenAnswer.Laws as N′
+use Rattle.numbers_collector.proofs.TakenAnswer as N
+use Rattle.numbers_collector.proofs.TakenAnswer.Laws as N′
 use Rattle.cowriestep_turn.proofs.Driving as S
 use Rattle.cowriestep_turn.proofs.Driving.{aval}
 use Rattle.numbers.proofs.turning.turn as step

@@ -1,5 +1,4 @@
 -- `machine_strides::tick_on` meets its contract, by a law for each way out. Assumes nothing. Written by tools/ways.py.
-use borrow.Author.Needs.{needs}
 use mathlib.Core.Path.{sym, _∙_}
 use Rattle.machine_strides.specs.Settled.{are-settled}
 use Rattle.machine_strides.proofs.tick_on.Statement.{statement}

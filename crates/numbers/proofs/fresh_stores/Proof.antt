@@ -1,7 +1,7 @@
 -- `numbers::fresh_stores` meets its contract. Assumes nothing.
 use mathlib.Core.Path.{ap, _∙_}
 use borrow.Author.Needs.{needs}
-use Rattle.numbers.specs.Packed.{answerNumber}
+use Rattle.numbers_answers.specs.Packed.{answerNumber}
 use Rattle.numbers.proofs.fresh_stores.Statement.{statement}
 use Rattle.numbers.proofs.fresh_stores.Tie as tie
 

@@ -1,6 +1,5 @@
 -- `session_answers::put_irq` meets its contract. Assumes nothing.
 use borrow.Author.Needs.{needs}
-use mathlib.Core.Path.{refl}
 use Rattle.session_answers.proofs.Lengths.{nothing-written}
 use Rattle.session_answers.proofs.put_irq.Statement.{statement}
 use Rattle.session_answers.proofs.put_irq.Tie as tie

@@ -3,7 +3,6 @@ use mathlib.Core.Path.{_≡_, refl, _∙_}
 use Prim.Native.Nat.{_-_}
 use native.Mathlib.Omega.{arith}
 use lib.ListN.{length}
-use borrow.Author.Needs.{needs}
 use Rattle.session_talk.specs.Session.{talkOf}
 use Rattle.session_feed.proofs.Feeding.{Fed-so, fed-none, fed-more, fed-all, fed-full}
 use Rattle.session_feed.proofs.feed.Statement.{statement}
