@@ -10,7 +10,7 @@ use Rattle.board_refusal.specs.Working.{WorkingBoard}
 use Rattle.collector_phases.specs.declared.Collector.{Collector}
 use Rattle.collector_settings.specs.declared.Settings.{Settings}
 use Rattle.collector_records.specs.declared.Started.the-variants.{Begun}
-use Rattle.collector_records.specs.Records.{started}
+use Rattle.collector_records.specs.Records.{startOf}
 use Rattle.collector.specs.Kept.{started-begun}
 use Rattle.board_step.specs.States.{Works}
 use Rattle.archive_turns.specs.Real.{lent, real}
@@ -20,7 +20,7 @@ use Rattle.archive.specs.Real.{real-laws}
 use Rattle.archive_demand.specs.Theorem.{demand3}
 
 pub archive : (b : Board) (memory eeprom : List ℕ) (settings : Settings) (c : Collector) → WorkingBoard b memory → length eeprom ≡ 128
-    → started settings ≡ Begun c → Demand3 real words (record { board = lent b memory eeprom; collector = c })
+    → startOf settings ≡ Begun c → Demand3 real words (record { board = lent b memory eeprom; collector = c })
 archive b memory eeprom settings c w e h =
     let s = started-begun settings c h in
     subst (λ (d : Collector). Demand3 real words (record { board = lent b memory eeprom; collector = d })) (sym (s .0))

@@ -9,7 +9,7 @@ use lib.ListN.{length}
 use Rattle.collector_phases.specs.declared.Access.{Access}
 use Rattle.samples.specs.declared.Sample.{Sample}
 use Rattle.collector_records.specs.declared.Started.the-variants.{Begun}
-use Rattle.collector_records.specs.Records.{started}
+use Rattle.collector_records.specs.Records.{startOf}
 use Rattle.board_step.specs.States.{Works}
 use Rattle.archive_turns.specs.Real.{real}
 use Rattle.archive_turns.specs.Hosts.{words}
@@ -52,7 +52,7 @@ sampleOn channel code = record { channel = channel; code = pos code }
 pub record Met : Type 0 where
   -- "Let the collector start on any working board": this one works, and the start is taken
   pub works : Works (system .board)
-  pub begun : started settings ≡ Begun (system .collector)
+  pub begun : startOf settings ≡ Begun (system .collector)
   -- "each sample handed over bears the channel selected when its conversion began .. each look that finds samples yields the oldest"
   pub one-by-one : seen real words system singly .handed ≡ sampleOn 3 600 ∷ sampleOn 4 601 ∷ []
   -- the next access is a look, and the memory is full
@@ -74,10 +74,10 @@ atSingly w = w .notes .handed
 abbrev atFilled : System holding → Access × ℕ
 atFilled x = (asks holding words x, length (x .board .samples))
 
-abbrev Ended : Type 0
-Ended = ℕ × ℕ × Bool × List Sample × Bool
+abbrev EndSeen : Type 0
+EndSeen = ℕ × ℕ × Bool × List Sample × Bool
 
-abbrev atEnd : System holding → Watch → Ended
+abbrev atEnd : System holding → Watch → EndSeen
 atEnd x w = (length (w .notes .handed), w .gaps, w .notes .within, goingOn x w again .notes .sinceGap, goingOn x w again .notes .within)
 
 singly-is : atSingly (watched heldSystem singly) ≡ sampleOn 3 600 ∷ sampleOn 4 601 ∷ []
@@ -104,9 +104,9 @@ met =
       one-by-one = ap (λ (l : Log). l .handed) (log-watched singly) ∙ singly-is;
       looks = ap (λ (x : System holding). asks holding words x) (laws.after-held filled) ∙ ap (λ (y : Access × ℕ). y .0) filled-is;
       full = ap (λ (x : System holding). length (x .board .samples)) (laws.after-held filled) ∙ ap (λ (y : Access × ℕ). y .1) filled-is;
-      all-come = ap (λ (l : Log). length (l .handed)) (log-watched drainedRun) ∙ ap (λ (y : Ended). y .0) ended-is;
-      one-gap = gaps-watched drainedRun ∙ ap (λ (y : Ended). y .1) ended-is;
-      limit-kept = ap (λ (l : Log). l .within) (log-watched drainedRun) ∙ ap (λ (y : Ended). y .2) ended-is;
-      low-again = ap (λ (l : Log). l .sinceGap) resumed-notes ∙ ap (λ (y : Ended). y .3) ended-is;
-      limit-kept-again = ap (λ (l : Log). l .within) resumed-notes ∙ ap (λ (y : Ended). y .4) ended-is;
+      all-come = ap (λ (l : Log). length (l .handed)) (log-watched drainedRun) ∙ ap (λ (y : EndSeen). y .0) ended-is;
+      one-gap = gaps-watched drainedRun ∙ ap (λ (y : EndSeen). y .1) ended-is;
+      limit-kept = ap (λ (l : Log). l .within) (log-watched drainedRun) ∙ ap (λ (y : EndSeen). y .2) ended-is;
+      low-again = ap (λ (l : Log). l .sinceGap) resumed-notes ∙ ap (λ (y : EndSeen). y .3) ended-is;
+      limit-kept-again = ap (λ (l : Log). l .within) resumed-notes ∙ ap (λ (y : EndSeen). y .4) ended-is;
     }

@@ -31,7 +31,7 @@ use Rattle.board_events.specs.declared.Event.the-variants.{WriteByte, ReadByte,
 use Rattle.board_step.specs.States.{State, Works}
 use Rattle.archive_turns.specs.Real.{real}
 use Rattle.archive_demand.specs.Bits.{StatusFlags, sts-shown, ef-shown, hf-shown, ff-shown, ovf-shown, status-narrow}
-use Rattle.archive_demand.specs.Laws.{clocked, cleared, lowered, raised, leaving, Serves, Polls, Looks, Fetches}
+use Rattle.archive_demand.specs.Laws.{clkenWritten, fifoCleared, lowWritten, highWritten, leaving, Serves, Polls, Looks, Fetches}
 use Rattle.archive.specs.RealViews.{holds, viewOf, Makes, serves}
 
 -- the bytes that are read at 8 and at 7
@@ -43,7 +43,7 @@ looked b = fifoBits (b .fifo) (b .converter) (b .requests) (b .registers .page)
 
 module _ (h : Held) where
   -- ---- the writes of a start
-  pub stops : Makes h (WriteByte 9 0) Done (clocked 0 (viewOf h))
+  pub stops : Makes h (WriteByte 9 0) Done (clkenWritten 0 (viewOf h))
   unfolding heldAnswer happened eventChecks writeChecks placeOf ran acted writtenAt writeEffect begins
   stops = record { answers = refl; leaves = refl; begins-none = refl }
 
@@ -51,29 +51,29 @@ module _ (h : Held) where
   unfolding heldAnswer happened eventChecks writeChecks placeOf ran acted writtenAt writeEffect begins
   ranges n = record { answers = refl; leaves = refl; begins-none = refl }
 
-  pub clears : Makes h (WriteByte 7 2) Done (cleared (viewOf h))
+  pub clears : Makes h (WriteByte 7 2) Done (fifoCleared (viewOf h))
   unfolding heldAnswer happened eventChecks writeChecks placeOf ran acted writtenAt writeEffect begins
   clears = record { answers = refl; leaves = refl; begins-none = refl }
 
-  pub lows : (n : ℕ) → n ≤ 31 → Makes h (WriteByte 2 n) Done (lowered n (viewOf h))
+  pub lows : (n : ℕ) → n ≤ 31 → Makes h (WriteByte 2 n) Done (lowWritten n (viewOf h))
   unfolding heldAnswer happened eventChecks writeChecks placeOf ran acted writtenAt writeEffect begins
   lows n k =
       record {
         answers = refl;
-        leaves = ap (λ (x : ℕ). lowered x (viewOf h)) (let e : n % 32 ≡ n = omega arith in e);
+        leaves = ap (λ (x : ℕ). lowWritten x (viewOf h)) (let e : n % 32 ≡ n = omega arith in e);
         begins-none = refl;
       }
 
-  pub highs : (n : ℕ) → n ≤ 31 → Makes h (WriteByte 3 n) Done (raised n (viewOf h))
+  pub highs : (n : ℕ) → n ≤ 31 → Makes h (WriteByte 3 n) Done (highWritten n (viewOf h))
   unfolding heldAnswer happened eventChecks writeChecks placeOf ran acted writtenAt writeEffect begins
   highs n k =
       record {
         answers = refl;
-        leaves = ap (λ (x : ℕ). raised x (viewOf h)) (let e : n % 32 ≡ n = omega arith in e);
+        leaves = ap (λ (x : ℕ). highWritten x (viewOf h)) (let e : n % 32 ≡ n = omega arith in e);
         begins-none = refl;
       }
 
-  pub goes : (external : Bool) → Makes h (WriteByte 9 (if external then 2 else 3)) Done (clocked 1 (viewOf h))
+  pub goes : (external : Bool) → Makes h (WriteByte 9 (if external then 2 else 3)) Done (clkenWritten 1 (viewOf h))
   unfolding heldAnswer happened eventChecks writeChecks placeOf ran acted writtenAt writeEffect begins
   goes true = record { answers = refl; leaves = refl; begins-none = refl }
   goes false = record { answers = refl; leaves = refl; begins-none = refl }

@@ -6,7 +6,7 @@ use lib.IntN.{pos}
 use Rattle.collector_settings.specs.declared.Settings.{Settings}
 use Rattle.collector_records.specs.declared.Started.the-variants.{Begun}
 use Rattle.collector_settings.specs.Settings.{startRefusal}
-use Rattle.collector_records.specs.Records.{begun, started}
+use Rattle.collector_records.specs.Records.{firstRecord, startOf}
 use Rattle.archive_turns.specs.Machine.{Machine}
 use Rattle.archive_demand.specs.World.{World, conversion-end, din-pins}
 use Rattle.archive_demand.specs.Run.{turn, world, Run, begin, _▸_, System}
@@ -15,12 +15,12 @@ use Rattle.archive_demand.specs.Run.{turn, world, Run, begin, _▸_, System}
 abbrev pub settings : Settings
 settings = record { low = 3; high = 5; jumpers = 0; range = 0; clock = 0; limit = 10 }
 
-pub settings-taken : started settings ≡ Begun (begun settings)
-unfolding started startRefusal
+pub settings-taken : startOf settings ≡ Begun (firstRecord settings)
+unfolding startOf startRefusal
 settings-taken = refl
 
 abbrev pub from : (M : Machine) → M .Board → System M
-from M b = record { board = b; collector = begun settings }
+from M b = record { board = b; collector = firstRecord settings }
 
 -- ---- events of the world: DIN3-0 take these levels; a conversion ends with the code n
 abbrev pub din : ℕ → World

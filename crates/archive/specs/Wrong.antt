@@ -18,8 +18,8 @@ use Rattle.collector_phases.specs.declared.Collector.{Collector}
 use Rattle.collector_phases.specs.declared.Phase.the-variants.{Poll, Take}
 use Rattle.samples.specs.declared.Sample.{Sample}
 use Rattle.collector_steps.specs.declared.Taken.{Taken}
-use Rattle.collector_phases.specs.Phases.{number}
-use Rattle.collector_records.specs.Records.{begun}
+use Rattle.collector_phases.specs.Phases.{phaseNumber}
+use Rattle.collector_records.specs.Records.{firstRecord}
 use Rattle.collector_phases.specs.Accesses.{accessOf}
 use Rattle.collector_replies.specs.Reply.{replied}
 use Rattle.archive_turns.specs.Machine.{Machine, Host}
@@ -32,7 +32,7 @@ use Rattle.archive.specs.Trials.{from, endsWith, start, sampled, samples
 
 -- ---- a collector that takes each poll as if STS were 0
 abbrev pub hasty : Host
-hasty = record { access = accessOf; reply = λ c a. replied c (if eqb (c .phase) (number Poll) then a % 128 else a) }
+hasty = record { access = accessOf; reply = λ c a. replied c (if eqb (c .phase) (phaseNumber Poll) then a % 128 else a) }
 
 -- on a board that converts channel 1 as the collector begins
 abbrev pub converting : Converter
@@ -69,7 +69,7 @@ silent = record { access = λ c. if eqb (c .next) (c .settings .low) then access
 -- ---- a collector that starts anew after a single take
 abbrev renewed : Collector → Taken → Taken
 renewed c t =
-    if eqb (c .phase) (number Take) then record { collector = begun (c .settings); polls = t .polls; handed = t .handed } else t
+    if eqb (c .phase) (phaseNumber Take) then record { collector = firstRecord (c .settings); polls = t .polls; handed = t .handed } else t
 
 abbrev pub restarting : Host
 restarting = record { access = accessOf; reply = λ c a. renewed c (replied c a) }

@@ -18,7 +18,7 @@ use Rattle.collector_settings.specs.declared.Settings.{Settings}
 use Rattle.samples.specs.declared.Sample.{Sample}
 use Rattle.collector_phases.specs.Fit.{FitSettings}
 use Rattle.archive_turns.specs.Machine.{View}
-use Rattle.archive_demand.specs.Log.{Log, counted, atMostOne, noteWorld}
+use Rattle.archive_demand.specs.Log.{Log, endCounted, atMostOne, noteWorld}
 use Rattle.archive_demand.specs.Laws.{starting}
 use Rattle.collector_records.specs.Records.{follows}
 use Rattle.collector.specs.Kept.{follows-from, follows-to}
@@ -138,7 +138,7 @@ module _ (t : Settings) (next : ℕ) (v : View) (l : Log) (code : ℤ) (ch : ℕ
       go true a (no-loss z) = kept a z
       go true a (was-full z) = absurd (let y : length (v .held) < 512 = ltb-true (length (v .held)) 512 a in omega arith)
 
-  pub take-end : atMostOne (counted (some code) (l .waiting)) ≡ true → Taking t next v l → Taking t next v₁ l₁
+  pub take-end : atMostOne (endCounted (some code) (l .waiting)) ≡ true → Taking t next v l → Taking t next v₁ l₁
   unfolding pushed
   take-end a k =
       record {

@@ -7,7 +7,7 @@ use Rattle.collector_phases.specs.Phases.{phaseOf}
 use Rattle.collector_phases.specs.Fit.{FitSettings, FitCollector}
 use Rattle.collector_phases.specs.Accesses.{accessOf}
 use Rattle.collector_replies.specs.Reply.{replied}
-use Rattle.collector_records.specs.Records.{begun}
+use Rattle.collector_records.specs.Records.{firstRecord}
 use Rattle.collector.specs.Counts.{step-holds}
 use Rattle.collector.specs.Steps.{step, access-fit}
 use Rattle.collector.specs.Kept.{begun-fit, replied-fit}
@@ -89,11 +89,11 @@ module _ (M : Machine) (Working : M .Board → Type 0) (laws : Laws M Working) w
   -- a start on a working board
   module _ (b : M .Board) (wk : Working b) (t : Settings) (f : FitSettings t) where
     abbrev pub s₀ : System M
-    s₀ = record { board = b; collector = begun t }
+    s₀ = record { board = b; collector = firstRecord t }
 
     pub sound₀ : Sound t s₀
     sound₀ = record { works = wk; fit = begun-fit t f; same = refl }
 
-    pub fact₀ : FactOf (begun t) (M .view b) (log M words s₀ begin)
+    pub fact₀ : FactOf (firstRecord t) (M .view b) (log M words s₀ begin)
     unfolding log phaseOf
     fact₀ = (record { prefix = λ w. ([], refl); since = refl; runs = refl }, refl)

@@ -31,7 +31,7 @@ use Rattle.archive_turns.specs.Machine.{View, Machine}
 use Rattle.archive_turns.specs.Turn.{Turning, eventOf, turnBy}
 use Rattle.archive_turns.specs.Hosts.{words}
 use Rattle.archive_demand.specs.Log.{Log, noteTurn, bringsBy, beginsBy, selected}
-use Rattle.archive_demand.specs.Laws.{Laws, Serves, Fetches, clocked}
+use Rattle.archive_demand.specs.Laws.{Laws, Serves, Fetches, clkenWritten}
 use Rattle.archive_demand.specs.Laws as view
 use Rattle.archive_demand.specs.Phases.{Idle, no-loss, FactOf}
 use Rattle.archive_demand.specs.Sights.{status, no-contradiction, shows-some, shows-all, shows-few}
@@ -50,7 +50,7 @@ module _ (M : Machine) (Working : M .Board → Type 0) (laws : Laws M Working) w
     ch = selected M b
 
     -- ---- the start
-    stop-after : (r : Taken) → Step c 0 Stop r → Now M b c l Stop → After M b c l (WriteByte 9 0) 0 r (clocked 0 v)
+    stop-after : (r : Taken) → Step c 0 Stop r → Now M b c l Stop → After M b c l (WriteByte 9 0) 0 r (clkenWritten 0 v)
     unfolding phaseOf
     stop-after r stopped k = rw (still (WriteByte 9 0) 0 ch l refl) (idle-on l (l .waiting) (k .0), k .1, refl)
 
@@ -67,25 +67,25 @@ module _ (M : Machine) (Working : M .Board → Type 0) (laws : Laws M Working) w
     unfolding phaseOf
     range-after r ranged k = rw (still (WriteByte 11 (t .range)) 0 ch l refl) (quiet-on l (l .waiting) t (c .next) v k)
 
-    clear-after : (r : Taken) → Step c 0 Clear r → Now M b c l Clear → After M b c l (WriteByte 7 2) 0 r (view.cleared v)
+    clear-after : (r : Taken) → Step c 0 Clear r → Now M b c l Clear → After M b c l (WriteByte 7 2) 0 r (view.fifoCleared v)
     unfolding phaseOf
     clear-after r cleared k =
         rw (still (WriteByte 7 2) 0 ch l refl)
         (record { idle = idle-on l (l .waiting) (k .idle); aim = k .aim; off = k .off; still = k .still }, refl, refl)
 
-    low-after : (r : Taken) → Step c 0 Low r → Now M b c l Low → After M b c l (WriteByte 2 (t .low)) 0 r (view.lowered (t .low) v)
+    low-after : (r : Taken) → Step c 0 Low r → Now M b c l Low → After M b c l (WriteByte 2 (t .low)) 0 r (view.lowWritten (t .low) v)
     unfolding phaseOf
     low-after r lowered k =
         rw (still (WriteByte 2 (t .low)) 0 ch l refl)
         (record { idle = idle-on l (l .waiting) (k .0 .idle); aim = k .0 .aim; off = k .0 .off; still = k .0 .still }, k .1, k .2, refl)
 
-    high-after : (r : Taken) → Step c 0 High r → Now M b c l High → After M b c l (WriteByte 3 (t .high)) 0 r (view.raised (t .high) v)
+    high-after : (r : Taken) → Step c 0 High r → Now M b c l High → After M b c l (WriteByte 3 (t .high)) 0 r (view.highWritten (t .high) v)
     unfolding phaseOf
     high-after r raised k =
         rw (still (WriteByte 3 (t .high)) 0 ch l refl)
         (record { idle = idle-on l (l .waiting) (k .0 .idle); aim = k .0 .aim; off = k .0 .off; still = k .0 .still }, k .1, k .2, k .3, refl, k .3)
 
-    go-after : (r : Taken) → Step c 0 Go r → Now M b c l Go → After M b c l (WriteByte 9 (clockByte t)) 0 r (clocked 1 v)
+    go-after : (r : Taken) → Step c 0 Go r → Now M b c l Go → After M b c l (WriteByte 9 (clockByte t)) 0 r (clkenWritten 1 v)
     unfolding phaseOf
     go-after r went k =
         rw (is-go (eqb (t .clock) 0), append-nil (l .sinceGap)) (
@@ -159,18 +159,18 @@ module _ (M : Machine) (Working : M .Board → Type 0) (laws : Laws M Working) w
     st a p e = subst (λ (q : Phase). Step c a q (replied c a)) e (step c a fc)
 
     pub turn-kept : (p : Phase) → phaseOf (c .phase) ≡ p → Now M b c l p → Kept (accessIn p t)
-    turn-kept Stop e k = write-kept 9 0 (clocked 0 v) (laws .stops b wk) (stop-after (replied c 0) (st 0 Stop e) k)
+    turn-kept Stop e k = write-kept 9 0 (clkenWritten 0 v) (laws .stops b wk) (stop-after (replied c 0) (st 0 Stop e) k)
     turn-kept Poll e k =
         let s = laws .polls b wk in
         read-kept 8 (s .byte) (s .serves) (poll-after (s .byte) (replied c (s .byte)) (s .narrow) (s .sts) (st (s .byte) Poll e) k)
     turn-kept Range e k = write-kept 11 (t .range) v (laws .ranges b (t .range) wk) (range-after (replied c 0) (st 0 Range e) k)
-    turn-kept Clear e k = write-kept 7 2 (view.cleared v) (laws .clears b wk) (clear-after (replied c 0) (st 0 Clear e) k)
+    turn-kept Clear e k = write-kept 7 2 (view.fifoCleared v) (laws .clears b wk) (clear-after (replied c 0) (st 0 Clear e) k)
     turn-kept Low e k =
-        write-kept 2 (t .low) (view.lowered (t .low) v) (laws .lows b (t .low) (omega (arith, fc .settings .order, fc .settings .top)) wk)
+        write-kept 2 (t .low) (view.lowWritten (t .low) v) (laws .lows b (t .low) (omega (arith, fc .settings .order, fc .settings .top)) wk)
         (low-after (replied c 0) (st 0 Low e) k)
     turn-kept High e k =
-        write-kept 3 (t .high) (view.raised (t .high) v) (laws .highs b (t .high) (fc .settings .top) wk) (high-after (replied c 0) (st 0 High e) k)
-    turn-kept Go e k = write-kept 9 (clockByte t) (clocked 1 v) (laws .goes b t wk) (go-after (replied c 0) (st 0 Go e) k)
+        write-kept 3 (t .high) (view.highWritten (t .high) v) (laws .highs b (t .high) (fc .settings .top) wk) (high-after (replied c 0) (st 0 High e) k)
+    turn-kept Go e k = write-kept 9 (clockByte t) (clkenWritten 1 v) (laws .goes b t wk) (go-after (replied c 0) (st 0 Go e) k)
     turn-kept Look e k =
         let a = status M Working laws b wk in
         read-kept 7 a (laws .looks b wk .serves) (look-after (replied c a) e (st a Look e) k)

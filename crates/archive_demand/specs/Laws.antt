@@ -38,20 +38,20 @@ ending sample v =
     }
 
 -- CLKEN is written
-abbrev pub clocked : ℕ → View → View
-clocked clken v =
+abbrev pub clkenWritten : ℕ → View → View
+clkenWritten clken v =
     record { converter = withBits (v .converter) (v .converter .scanen) clken; held = v .held; ovf = v .ovf }
 
 -- 7←02: SCANEN off, the memory emptied, OVF cleared
-abbrev pub cleared : View → View
-cleared v = record { converter = withBits (v .converter) 0 (v .converter .clken); held = []; ovf = false }
+abbrev pub fifoCleared : View → View
+fifoCleared v = record { converter = withBits (v .converter) 0 (v .converter .clken); held = []; ovf = false }
 
 -- the low and the high channel are written: either makes low the selected channel
-abbrev pub lowered : ℕ → View → View
-lowered n v = record { converter = withChannels (v .converter) n (v .converter .high); held = v .held; ovf = v .ovf }
+abbrev pub lowWritten : ℕ → View → View
+lowWritten n v = record { converter = withChannels (v .converter) n (v .converter .high); held = v .held; ovf = v .ovf }
 
-abbrev pub raised : ℕ → View → View
-raised n v = record { converter = withChannels (v .converter) (v .converter .low) n; held = v .held; ovf = v .ovf }
+abbrev pub highWritten : ℕ → View → View
+highWritten n v = record { converter = withChannels (v .converter) (v .converter .low) n; held = v .held; ovf = v .ovf }
 
 -- the oldest sample has left
 abbrev pub leaving : List ℕ → View → View
@@ -104,13 +104,13 @@ pub record Laws (M : Machine) (Working : M .Board → Type 0) : Type 0 where
   pub happens : (b : M .Board) (w : World) → Working b
       → Happens (M .begins b (eventIn w)) (M .ends b (eventIn w)) (M .view b) (M .view (M .stepped b (eventIn w)))
   -- the start's accesses: 9←0, read 8, 11←range code, 7←02, 2←low, 3←high, 9←02 or 03
-  pub stops : (b : M .Board) → Working b → Serves M b (WriteByte 9 0) Done (clocked 0 (M .view b))
+  pub stops : (b : M .Board) → Working b → Serves M b (WriteByte 9 0) Done (clkenWritten 0 (M .view b))
   pub polls : (b : M .Board) → Working b → Polls M b
   pub ranges : (b : M .Board) (n : ℕ) → Working b → Serves M b (WriteByte 11 n) Done (M .view b)
-  pub clears : (b : M .Board) → Working b → Serves M b (WriteByte 7 2) Done (cleared (M .view b))
-  pub lows : (b : M .Board) (n : ℕ) → n ≤ 31 → Working b → Serves M b (WriteByte 2 n) Done (lowered n (M .view b))
-  pub highs : (b : M .Board) (n : ℕ) → n ≤ 31 → Working b → Serves M b (WriteByte 3 n) Done (raised n (M .view b))
-  pub goes : (b : M .Board) (s : Settings) → Working b → Serves M b (WriteByte 9 (clockByte s)) Done (clocked 1 (M .view b))
+  pub clears : (b : M .Board) → Working b → Serves M b (WriteByte 7 2) Done (fifoCleared (M .view b))
+  pub lows : (b : M .Board) (n : ℕ) → n ≤ 31 → Working b → Serves M b (WriteByte 2 n) Done (lowWritten n (M .view b))
+  pub highs : (b : M .Board) (n : ℕ) → n ≤ 31 → Working b → Serves M b (WriteByte 3 n) Done (highWritten n (M .view b))
+  pub goes : (b : M .Board) (s : Settings) → Working b → Serves M b (WriteByte 9 (clockByte s)) Done (clkenWritten 1 (M .view b))
   -- the look and the word read
   pub looks : (b : M .Board) → Working b → Looks M b
   pub words : (b : M .Board) → Working b → Fetches M b

@@ -47,10 +47,10 @@ abbrev pub closed : Option ℤ → Option ℕ → Option ℕ
 closed none k = k
 closed (some code) k = none
 
-abbrev pub counted : Option ℤ → Option ℕ → Option ℕ
-counted none k = k
-counted (some code) none = none
-counted (some code) (some n) = some (n + 1)
+abbrev pub endCounted : Option ℤ → Option ℕ → Option ℕ
+endCounted none k = k
+endCounted (some code) none = none
+endCounted (some code) (some n) = some (n + 1)
 
 abbrev pub atMostOne : Option ℕ → Bool
 atMostOne none = true
@@ -64,8 +64,8 @@ noteWorld e begins selected l =
       handed = l .handed;
       sinceGap = l .sinceGap;
       running = l .running;
-      waiting = counted e (l .waiting);
-      within = l .within && atMostOne (counted e (l .waiting));
+      waiting = endCounted e (l .waiting);
+      within = l .within && atMostOne (endCounted e (l .waiting));
     }
 
 -- ---- a turn: an access, the number that it brought, and what was handed over

@@ -4,7 +4,7 @@ use mathlib.Core.Path.{_≡_, sym, subst}
 use Rattle.collector_settings.specs.declared.Settings.{Settings}
 use Rattle.collector_phases.specs.declared.Collector.{Collector}
 use Rattle.collector_records.specs.declared.Started.the-variants.{Begun}
-use Rattle.collector_records.specs.Records.{started}
+use Rattle.collector_records.specs.Records.{startOf}
 use Rattle.collector.specs.Kept.{started-begun}
 use Rattle.archive_turns.specs.Machine.{Machine}
 use Rattle.archive_turns.specs.Hosts.{words}
@@ -13,7 +13,7 @@ use Rattle.archive_demand.specs.Reads.{readsSince}
 use Rattle.archive_demand.specs.ReadsLaws.{reported-after}
 
 -- A collector that a start gave, on any board, after any run
-module _ (M : Machine) (b : M .Board) (settings : Settings) (c : Collector) (h : started settings ≡ Begun c) where
+module _ (M : Machine) (b : M .Board) (settings : Settings) (c : Collector) (h : startOf settings ≡ Begun c) where
   abbrev together : System M
   together = record { board = b; collector = c }
 

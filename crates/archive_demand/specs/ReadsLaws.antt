@@ -14,7 +14,7 @@ use Rattle.collector_phases.specs.declared.Phase.the-variants.{Stop, Poll, Rang
 use Rattle.collector_phases.specs.Phases.{phaseOf, accessIn}
 use Rattle.collector_phases.specs.Fit.{FitSettings, FitIn, FitCollector}
 use Rattle.collector_phases.specs.Accesses.{accessOf}
-use Rattle.collector_records.specs.Records.{begun}
+use Rattle.collector_records.specs.Records.{firstRecord}
 use Rattle.collector_replies.specs.Reply.{replied}
 use Rattle.collector_steps.specs.declared.Handed.{Handed}
 use Rattle.collector_steps.specs.declared.Handed.the-variants as handed
@@ -86,7 +86,7 @@ module _ (M : Machine) (c : Collector) (w : FitCollector c) (n : ℕ) (k : under
 -- ---- a run
 module _ (M : Machine) (b : M .Board) (t : Settings) (f : FitSettings t) where
   abbrev pub opening : System M
-  opening = record { board = b; collector = begun t }
+  opening = record { board = b; collector = firstRecord t }
 
   abbrev standing : Run → System M
   standing r = after M words opening r

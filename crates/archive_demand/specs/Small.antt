@@ -23,7 +23,7 @@ use Rattle.board_events.specs.declared.Event.{Event}
 use Rattle.board_events.specs.declared.Event.the-variants.{WriteByte, ReadByte, ReadWord, ConversionEnd, DinPins, LatchLevel, PortPins, Tick, TransferEnd}
 use Rattle.archive_turns.specs.Machine.{View, Machine}
 use Rattle.archive_demand.specs.Bits.{StatusFlags, statusByte}
-use Rattle.archive_demand.specs.Laws.{starting, ending, clocked, lowered, raised, leaving}
+use Rattle.archive_demand.specs.Laws.{starting, ending, clkenWritten, lowWritten, highWritten, leaving}
 
 -- ---- the bus
 -- 7: SCANEN is stored, also beside FIFORST, which empties the memory and clears OVF
@@ -40,10 +40,10 @@ fifoControlled v x = if FIFORST x then emptied (scanned v x) else scanned v x
 -- 2: L4-0; 3: H4-0; 9: CLKEN
 abbrev pub written : View → ℕ → ℕ → View
 written v n x =
-    if eqb n 2 then lowered (x % 32) v
-    else if eqb n 3 then raised (x % 32) v
+    if eqb n 2 then lowWritten (x % 32) v
+    else if eqb n 3 then highWritten (x % 32) v
     else if eqb n 7 then fifoControlled v x
-    else if eqb n 9 then clocked (field x 1 1) v
+    else if eqb n 9 then clkenWritten (field x 1 1) v
     else v
 
 -- 7: EF HF FF OVF, SCANEN; 8: STS, single-ended inputs, ADCH4-0

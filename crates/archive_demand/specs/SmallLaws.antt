@@ -23,7 +23,7 @@ use Rattle.board_events.specs.declared.Event.the-variants.{WriteByte, ReadByte,
 use Rattle.archive_turns.specs.Machine.{View}
 use Rattle.archive_demand.specs.World.{World, conversion-end, din-pins, latch-level, port-pins, tick, transfer-end, eventIn}
 use Rattle.archive_demand.specs.Bits.{sts-shown, ef-shown, hf-shown, ff-shown, ovf-shown, status-narrow}
-use Rattle.archive_demand.specs.Laws.{starting, ending, clocked, lowered, raised}
+use Rattle.archive_demand.specs.Laws.{starting, ending, clkenWritten, lowWritten, highWritten}
 use Rattle.archive_demand.specs.Laws.{Happens, quiet, trigger, end, Serves, Polls, Looks, Fetches, Laws}
 use Rattle.archive_demand.specs.Small.{small, smallStep, smallBegins, smallEnds, edgeBegins, written, fifoByte, adByte, fetched, flagsOf}
 
@@ -92,7 +92,7 @@ small-happens v tick = quiet refl refl refl
 small-happens v transfer-end = quiet refl refl refl
 
 -- ---- the bus
-goes : (v : View) (external : Bool) → Serves small v (WriteByte 9 (if external then 2 else 3)) Done (clocked 1 v)
+goes : (v : View) (external : Bool) → Serves small v (WriteByte 9 (if external then 2 else 3)) Done (clkenWritten 1 v)
 goes v true = record { answers = refl; leaves = refl; begins-none = refl }
 goes v false = record { answers = refl; leaves = refl; begins-none = refl }
 
@@ -143,8 +143,8 @@ small-laws =
       polls = λ v k. polls v;
       ranges = λ v n k. record { answers = refl; leaves = refl; begins-none = refl };
       clears = λ v k. record { answers = refl; leaves = refl; begins-none = refl };
-      lows = λ v n h k. record { answers = refl; leaves = ap (λ (x : ℕ). lowered x v) (within n h); begins-none = refl };
-      highs = λ v n h k. record { answers = refl; leaves = ap (λ (x : ℕ). raised x v) (within n h); begins-none = refl };
+      lows = λ v n h k. record { answers = refl; leaves = ap (λ (x : ℕ). lowWritten x v) (within n h); begins-none = refl };
+      highs = λ v n h k. record { answers = refl; leaves = ap (λ (x : ℕ). highWritten x v) (within n h); begins-none = refl };
       goes = λ v s k. goes v (eqb (s .clock) 0);
       looks = λ v k. looks v;
       words = λ v k. words v;

@@ -13,7 +13,7 @@ use Rattle.collector_phases.specs.declared.Phase.the-variants.{Stop, Poll, Rang
 use Rattle.collector_phases.specs.Phases.{phaseOf, accessIn}
 use Rattle.collector_phases.specs.Fit.{FitSettings}
 use Rattle.collector_phases.specs.Accesses.{accessOf}
-use Rattle.collector_records.specs.Records.{begun}
+use Rattle.collector_records.specs.Records.{firstRecord}
 use Rattle.collector.specs.Steps.{access-fit}
 use Rattle.archive_turns.specs.Machine.{View, Machine}
 use Rattle.archive_turns.specs.Hosts.{words}
@@ -48,11 +48,11 @@ prefix-of Stuck t next left v l k = k .prefix
 prefix-of Unknown t next left v l k = absurd k
 
 -- either no run is on, or one is
-data State (p : Phase) (t : Settings) (next : ℕ) (l : Log) : Type 0 where
-  idle : Starting p → Idle l → State p t next l
-  running : Either (p ≡ Look) (accessIn p t ≡ ReadWord 0) → Running t next l → State p t next l
+data RunState (p : Phase) (t : Settings) (next : ℕ) (l : Log) : Type 0 where
+  idle : Starting p → Idle l → RunState p t next l
+  running : Either (p ≡ Look) (accessIn p t ≡ ReadWord 0) → Running t next l → RunState p t next l
 
-state-of : (p : Phase) (t : Settings) (next left : ℕ) (v : View) (l : Log) → Fact p t next left v l → State p t next l
+state-of : (p : Phase) (t : Settings) (next left : ℕ) (v : View) (l : Log) → Fact p t next left v l → RunState p t next l
 state-of Stop t next left v l k = idle tt (k .0)
 state-of Poll t next left v l k = idle tt (k .0)
 state-of Range t next left v l k = idle tt (k .idle)
@@ -79,7 +79,7 @@ module _ (M : Machine) (Working : M .Board → Type 0) (laws : Laws M Working) (
   fact : (r : Run) → FactOf (at r .collector) (M .view (at r .board)) (log M words s r)
   fact r = facts M Working laws t s r (sound₀ M Working laws b wk t f) (fact₀ M Working laws b wk t f)
 
-  state : (r : Run) → State (phaseOf (at r .collector .phase)) (at r .collector .settings) (at r .collector .next) (log M words s r)
+  state : (r : Run) → RunState (phaseOf (at r .collector .phase)) (at r .collector .settings) (at r .collector .next) (log M words s r)
   state r = state-of (phaseOf (at r .collector .phase)) _ _ (at r .collector .left) (M .view (at r .board)) _ (fact r)
 
   abbrev Quietly : Run → Happening → Type 0
@@ -89,7 +89,7 @@ module _ (M : Machine) (Working : M .Board → Type 0) (laws : Laws M Working) (
   outside r (world w) h = (refl, refl)
   outside r turn h = by (state r)
     where
-      by : State (phaseOf (at r .collector .phase)) (at r .collector .settings) (at r .collector .next) (log M words s r) → Quietly r turn
+      by : RunState (phaseOf (at r .collector .phase)) (at r .collector .settings) (at r .collector .next) (log M words s r) → Quietly r turn
       by (idle a i) = quiet-turn M Working laws (at r) (ok r .works) (ok r .fit) (phaseOf (at r .collector .phase)) refl a
       by (running a i) = absurd (true≢false (sym (i .runs) ∙ h))
 
@@ -99,7 +99,7 @@ module _ (M : Machine) (Working : M .Board → Type 0) (laws : Laws M Working) (
   low : (r : Run) (y : Sample) (ys : List Sample) → log M words s r .sinceGap ≡ y ∷ ys → y .channel ≡ t .low
   low r y ys e = by (state r)
     where
-      by : State (phaseOf (at r .collector .phase)) (at r .collector .settings) (at r .collector .next) (log M words s r) → y .channel ≡ t .low
+      by : RunState (phaseOf (at r .collector .phase)) (at r .collector .settings) (at r .collector .next) (log M words s r) → y .channel ≡ t .low
       by (idle a i) = let n : _≡_ {A = ℕ} 0 (suc (length ys)) = ap length (sym (i .since) ∙ e) in absurd (omega arith)
       by (running a i) =
           starts-low (log M words s r) (at r .collector .next) y ys
@@ -113,7 +113,7 @@ module _ (M : Machine) (Working : M .Board → Type 0) (laws : Laws M Working) (
       which (first p) = first (access-fit (at r .collector) (ok r .fit) ∙ ap (λ (q : Phase). accessIn q (at r .collector .settings)) p)
       which (second a) = second (access-fit (at r .collector) (ok r .fit) ∙ a)
 
-      by : State (phaseOf (at r .collector .phase)) (at r .collector .settings) (at r .collector .next) (log M words s r)
+      by : RunState (phaseOf (at r .collector .phase)) (at r .collector .settings) (at r .collector .next) (log M words s r)
           → Either (accessOf (at r .collector) ≡ look) (accessOf (at r .collector) ≡ wordRead)
       by (idle a i) = absurd (true≢false (sym h ∙ i .runs))
       by (running a i) = which a
@@ -124,7 +124,7 @@ module _ (M : Machine) (Working : M .Board → Type 0) (laws : Laws M Working) (
   at-poll : (r : Run) → accessOf (at r .collector) ≡ ReadByte 8 → phaseOf (at r .collector .phase) ≡ Poll
   at-poll r e = phase-told (at r .collector) (ReadByte 8) (ok r .fit) e
 
-  pub demand3 : Demand3 M words (record { board = b; collector = begun t })
+  pub demand3 : Demand3 M words (record { board = b; collector = firstRecord t })
   unfolding after phaseOf
   demand3 =
       record {
@@ -135,7 +135,7 @@ module _ (M : Machine) (Working : M .Board → Type 0) (laws : Laws M Working) (
         marks = λ r q e k. marks-at M Working laws t (at r) (ok r) (at-look r e) q k;
         again = λ r q e k. again-at M Working laws t (at r) (ok r) (at-look r e) q (omega (arith, k)) k;
         goes-on = in-run;
-        begins = access-fit (begun t) (sound₀ M Working laws b wk t f .fit);
+        begins = access-fit (firstRecord t) (sound₀ M Working laws b wk t f .fit);
         polls = λ r e. polls-at M Working laws t (at r) (ok r) (phase-told (at r .collector) (WriteByte 9 0) (ok r .fit) e);
         waits = λ r e k. waits-at M Working laws t (at r) (ok r) (at-poll r e) k;
         ready = λ r q e n k. ready-at M Working laws t (at r) (ok r) (at-poll r e) n q k;

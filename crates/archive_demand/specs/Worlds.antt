@@ -16,7 +16,7 @@ use Rattle.collector_phases.specs.declared.Phase.{Phase}
 use Rattle.collector_phases.specs.declared.Phase.the-variants.{Stop, Poll, Range, Clear, Low, High, Go, Look, Take, Drain, Stuck, Unknown}
 use Rattle.collector_phases.specs.Fit.{FitSettings}
 use Rattle.archive_turns.specs.Machine.{View}
-use Rattle.archive_demand.specs.Log.{Log, addSample, counted, atMostOne, noteWorld}
+use Rattle.archive_demand.specs.Log.{Log, addSample, endCounted, atMostOne, noteWorld}
 use Rattle.archive_demand.specs.Laws.{starting, ending, Happens, quiet, trigger, end}
 use Rattle.archive_demand.specs.Phases.{Idle, Quiet, Running, Looking, Taking, Draining, Fact}
 use Rattle.archive_demand.specs.Ends.{afterEnd, queue-begin, queue-relog, look-end, take-end, drain-end}
@@ -24,7 +24,7 @@ use Rattle.archive_demand.specs.Ends.{afterEnd, queue-begin, queue-relog
 -- ---- what does not depend on the samples
 pub idle-world : (e : Option ℤ) (begins : Bool) (ch : ℕ) (l : Log) → Idle l → Idle (noteWorld e begins ch l)
 idle-world e begins ch l i =
-    record { prefix = λ w. go e (l .current) (i .prefix (both (l .within) (atMostOne (counted e (l .waiting))) w .0)); since = i .since; runs = i .runs }
+    record { prefix = λ w. go e (l .current) (i .prefix (both (l .within) (atMostOne (endCounted e (l .waiting))) w .0)); since = i .since; runs = i .runs }
   where
     go : (e : Option ℤ) (k : Option ℕ) → IsPrefix (l .handed) (l .samples) → IsPrefix (l .handed) (addSample e k (l .samples))
     go none k p = p
@@ -89,7 +89,7 @@ module _ (t : Settings) (next left : ℕ) (f : FitSettings t) (v : View) (l : Lo
   l′ = noteWorld e begins ch l
 
   was-within : l′ .within ≡ true → l .within ≡ true
-  was-within w = both (l .within) (atMostOne (counted e (l .waiting))) w .0
+  was-within w = both (l .within) (atMostOne (endCounted e (l .waiting))) w .0
 
   looking : Looking t next v l → l′ .within ≡ true → Looking t next v′ l′
   unfolding by-event requieted
@@ -122,7 +122,7 @@ module _ (t : Settings) (next left : ℕ) (f : FitSettings t) (v : View) (l : Lo
         waits = k .waits;
         few = k .few;
       })
-      (λ code s b w. take-end t next v l code ch s b (both (l .within) (atMostOne (counted (some code) (l .waiting))) w .1) k) begins e v′ h
+      (λ code s b w. take-end t next v l code ch s b (both (l .within) (atMostOne (endCounted (some code) (l .waiting))) w .1) k) begins e v′ h
 
   draining : Draining left t next v l → l′ .within ≡ true → Draining left t next v′ l′
   unfolding by-event requieted

@@ -9,7 +9,7 @@ use Rattle.base.specs.Flags.{on}
 use Rattle.base.specs.Choice.{if_then_else_}
 use Rattle.fifo.specs.Queue.{queue}
 use Rattle.machine_record.specs.declared.Board.{Board}
-use Rattle.board_step.specs.States.{State, numberAt, answerAt, afterEvent}
+use Rattle.board_step.specs.States.{State, refusalAt, answerAt, afterEvent}
 use Rattle.board_laws.specs.Begins as conversions
 use Rattle.board_events.specs.declared.Event.{Event}
 use Rattle.collector_phases.specs.declared.Collector.{Collector}
@@ -25,7 +25,7 @@ lent b m e = record { board = b; memory = m; eeprom = e }
 
 -- an event of it is not refused
 abbrev pub takes : State → Event → Bool
-takes l ev = eqb (numberAt l ev) 0
+takes l ev = eqb (refusalAt l ev) 0
 
 -- the board of `board::step`; what it refuses begins and ends nothing
 abbrev pub real : Machine

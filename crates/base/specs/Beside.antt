@@ -29,9 +29,9 @@ abbrev pub inWord : ℕ → ℕ → Field
 inWord bits n = record { spare = 16 - bits; bits = bits; number = n }
 
 -- the numbers side by side
-abbrev pub number : List Field → ℕ
-number [] = 0
-number (f ∷ fs) = number fs * 2 ^ width f + f .number
+abbrev pub sideBySide : List Field → ℕ
+sideBySide [] = 0
+sideBySide (f ∷ fs) = sideBySide fs * 2 ^ width f + f .number
 
 -- their spare bits
 abbrev pub spares : List Field → ℕ
@@ -77,13 +77,13 @@ spare-zero j n x h =
     quotient false e =
         ne-eqb (x / 2 ^ n * 2 ^ n) 0 (λ z. omega (arith, pow-pos n, leb-false x (2 ^ n - 1) e, div-add-mod' x (2 ^ n), mod-lt x (pow-pos n)))
 
-spares-zero : (fs : List Field) → Fit fs → eqb (bitAnd (number fs) (spares fs)) 0 ≡ all (inRange fs)
+spares-zero : (fs : List Field) → Fit fs → eqb (bitAnd (sideBySide fs) (spares fs)) 0 ≡ all (inRange fs)
 spares-zero [] w = refl
 spares-zero (f ∷ fs) w =
-    rw (and-block (width f) (number fs) (spares fs) (f .number) (2 ^ width f - 2 ^ (f .bits)) (w .0) (omega (arith, pow-pos (f .bits), pow-pos (width f))))
-    (parts-zero (bitAnd (number fs) (spares fs)) (bitAnd (f .number) (2 ^ width f - 2 ^ (f .bits))) (2 ^ width f) (pow-pos (width f))
+    rw (and-block (width f) (sideBySide fs) (spares fs) (f .number) (2 ^ width f - 2 ^ (f .bits)) (w .0) (omega (arith, pow-pos (f .bits), pow-pos (width f))))
+    (parts-zero (bitAnd (sideBySide fs) (spares fs)) (bitAnd (f .number) (2 ^ width f - 2 ^ (f .bits))) (2 ^ width f) (pow-pos (width f))
     ∙ rw (spares-zero fs (w .1), spare-zero (f .spare) (f .bits) (f .number) (w .0)) (row-first (leb (f .number) (2 ^ (f .bits) - 1)) (inRange fs)))
 
 -- where n is the numbers side by side and m their spare bits, each number is within its range where n has no bit of m
-pub within : (fs : List Field) {n m : ℕ} → Fit fs → n ≡ number fs → m ≡ spares fs → eqb (bitAnd n m) 0 ≡ all (inRange fs)
+pub within : (fs : List Field) {n m : ℕ} → Fit fs → n ≡ sideBySide fs → m ≡ spares fs → eqb (bitAnd n m) 0 ≡ all (inRange fs)
 within fs w e d = rw (e, d) (spares-zero fs w)

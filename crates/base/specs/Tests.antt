@@ -4,20 +4,20 @@ use mathlib.Core.Bool.{Bool, true, false, _&&_}
 use mathlib.Core.List.{List, [], _∷_, _++_}
 use Rattle.base.specs.Laws.{never, both}
 
-abbrev pub row : Bool → List Bool → Bool
-row a [] = a
-row a (x ∷ xs) = row (a && x) xs
+abbrev pub allFrom : Bool → List Bool → Bool
+allFrom a [] = a
+allFrom a (x ∷ xs) = allFrom (a && x) xs
 
 abbrev pub all : List Bool → Bool
 all [] = true
-all (x ∷ xs) = row x xs
+all (x ∷ xs) = allFrom x xs
 
 -- each test of the row holds
 abbrev pub Each : List Bool → Type 0
 Each [] = Unit {0}
 Each (x ∷ xs) = (x ≡ true) × Each xs
 
-row-each : (a : Bool) (l : List Bool) → row a l ≡ true → (a ≡ true) × Each l
+row-each : (a : Bool) (l : List Bool) → allFrom a l ≡ true → (a ≡ true) × Each l
 row-each a [] h = (h, tt)
 row-each a (x ∷ xs) h =
     let r = row-each (a && x) xs h in
@@ -29,7 +29,7 @@ pub each : (l : List Bool) → all l ≡ true → Each l
 each [] h = tt
 each (x ∷ xs) h = row-each x xs h
 
-each-row : (a : Bool) (l : List Bool) → a ≡ true → Each l → row a l ≡ true
+each-row : (a : Bool) (l : List Bool) → a ≡ true → Each l → allFrom a l ≡ true
 each-row a [] p q = p
 each-row true (x ∷ xs) p q = each-row x xs (q .0) (q .1)
 each-row false (x ∷ xs) p q = never p
@@ -40,13 +40,13 @@ every [] q = refl
 every (x ∷ xs) q = each-row x xs (q .0) (q .1)
 
 -- ---- rows in a row
-pub row-first : (a : Bool) (l : List Bool) → a && all l ≡ row a l
+pub row-first : (a : Bool) (l : List Bool) → a && all l ≡ allFrom a l
 row-first true [] = refl
 row-first false [] = refl
 row-first true (x ∷ l) = refl
 row-first false (x ∷ l) = row-first false l
 
-row-append : (a : Bool) (l k : List Bool) → row a l && all k ≡ row a (l ++ k)
+row-append : (a : Bool) (l k : List Bool) → allFrom a l && all k ≡ allFrom a (l ++ k)
 row-append a [] k = row-first a k
 row-append a (x ∷ l) k = row-append (a && x) l k
 

@@ -13,9 +13,9 @@ NoneHold [] = Unit {0}
 NoneHold (c ∷ cs) = (c .holds ≡ false) × NoneHold cs
 
 -- no check of the row has the number 0
-abbrev pub Numbered : List Check → Type 0
-Numbered [] = Unit {0}
-Numbered (c ∷ cs) = (1 ≤ c .number) × Numbered cs
+abbrev pub NoneZero : List Check → Type 0
+NoneZero [] = Unit {0}
+NoneZero (c ∷ cs) = (1 ≤ c .number) × NoneZero cs
 
 -- where a row does not refuse, its first check does not hold, and the rest does not refuse
 pub passes : (t : Bool) (n : ℕ) (cs : List Check) → 1 ≤ n → (if t then n else refusal cs) ≡ 0 → (t ≡ false) × (refusal cs ≡ 0)
@@ -23,7 +23,7 @@ passes true n cs p h = absurd (omega arith)
 passes false n cs p h = (refl, h)
 
 -- nor does any other
-pub none-hold : (cs : List Check) → Numbered cs → refusal cs ≡ 0 → NoneHold cs
+pub none-hold : (cs : List Check) → NoneZero cs → refusal cs ≡ 0 → NoneHold cs
 none-hold [] n h = tt
 none-hold (c ∷ cs) n h = let e = passes (c .holds) (c .number) cs (n .0) h in (e .0, none-hold cs (n .1) (e .1))
 

@@ -6,7 +6,7 @@ use lib.Dec.{eqb}
 use Rattle.base.specs.Choice.{if_then_else_}
 use Rattle.machine_record.specs.declared.Board.{Board}
 use Rattle.board_step.specs.News.{news}
-use Rattle.board_step.specs.Step.{number, stepOf, memoryAfter, eepromAfter}
+use Rattle.board_step.specs.Step.{refusalOf, stepOf, memoryAfter, eepromAfter}
 use Rattle.board_events.specs.declared.Answer.the-variants.{Refused, Done}
 use Rattle.board_events.specs.declared.Event.the-variants.{Tick}
 use Rattle.board_advance.specs.declared.Advanced.{Advanced}
@@ -22,5 +22,5 @@ advancedFrom (suc n) d b memory eeprom =
 -- ---- `ticks` at the utmost; refused as a tick is, by 2 or 1, with nothing changed and none done
 unfoldable pub advancedOf : Board → List ℕ → List ℕ → ℕ → Advanced
 advancedOf b memory eeprom ticks =
-    if eqb (number b memory eeprom Tick) 0 then advancedFrom ticks 0 b memory eeprom
-    else record { board = b; progress = record { answer = Refused (number b memory eeprom Tick); done = 0 } }
+    if eqb (refusalOf b memory eeprom Tick) 0 then advancedFrom ticks 0 b memory eeprom
+    else record { board = b; progress = record { answer = Refused (refusalOf b memory eeprom Tick); done = 0 } }

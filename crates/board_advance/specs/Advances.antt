@@ -9,7 +9,7 @@ use borrow.Author.Tests.{eq-eqb, ne-eqb}
 use Rattle.base.specs.Choice.{if_then_else_}
 use Rattle.base.specs.Laws.{by-test}
 use Rattle.machine_record.specs.declared.Board.{Board}
-use Rattle.board_step.specs.Step.{number}
+use Rattle.board_step.specs.Step.{refusalOf}
 use Rattle.board_step.specs.States.{State, afterEvent}
 use Rattle.board_step.specs.Ways.{Opened, opens}
 use Rattle.board_step.specs.Ticked.{tickedBoard, tick-step, tick-opens}
@@ -108,11 +108,12 @@ module _ (m e : List ℕ) where
 
 -- ---- the whole call
 module _ (b : Board) (m e : List ℕ) (n : ℕ) where
-  pub advances : number b m e Tick ≡ 0 → Advances b m e n 0 (advancedOf b m e n)
+  pub advances : refusalOf b m e Tick ≡ 0 → Advances b m e n 0 (advancedOf b m e n)
   unfolding advancedOf
-  advances h = rw (eq-eqb (number b m e Tick) 0 h) (advances-from m e n 0 b (opens b m e Tick h))
+  advances h = rw (eq-eqb (refusalOf b m e Tick) 0 h) (advances-from m e n 0 b (opens b m e Tick h))
 
   -- a refused board: nothing changes
-  pub refuses : (number b m e Tick ≡ 0 → ⊥) → advancedOf b m e n ≡ record { board = b; progress = record { answer = Refused (number b m e Tick); done = 0 } }
+  pub refuses : (refusalOf b m e Tick ≡ 0 → ⊥)
+      → advancedOf b m e n ≡ record { board = b; progress = record { answer = Refused (refusalOf b m e Tick); done = 0 } }
   unfolding advancedOf
-  refuses h = rw (ne-eqb (number b m e Tick) 0 h)
+  refuses h = rw (ne-eqb (refusalOf b m e Tick) 0 h)

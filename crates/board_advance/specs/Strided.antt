@@ -16,7 +16,7 @@ use Rattle.machine_record.specs.Parts.{withConverter, withRequests, withClocks,
 use Rattle.machine_record.specs.declared.Clocks.{Clocks}
 use Rattle.machine_record.specs.declared.Board.{Board}
 use Rattle.machine_clock.specs.Clock.{gates}
-use Rattle.machine_tick.specs.InPlace.{clocksTicked, falls0, falls2, broughtBy, no-edge, no-ask}
+use Rattle.machine_tick.specs.InPlace.{clocksTicked, falls0, falls2, tickedTo, no-edge, no-ask}
 use Rattle.machine_strides.specs.Strides.{heard, strideFrom, strideOf}
 use Rattle.machine_strides.specs.declared.Stride.{Stride}
 use Rattle.board_step.specs.Ways.{Opened, working}
@@ -82,7 +82,7 @@ in-order true false = refl
 in-order false true = refl
 in-order false false = refl
 
-news-heard : (b : Board) (l : Clocks) → news b (broughtBy b l) ≡ heard (heeds0 b) (heeds2 b) (b .clocks) l
+news-heard : (b : Board) (l : Clocks) → news b (tickedTo b l) ≡ heard (heeds0 b) (heeds2 b) (b .clocks) l
 news-heard b l =
     let f2 = falls2 (b .clocks) l in
     let k = on (b .converter .clken) in

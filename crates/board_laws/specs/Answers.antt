@@ -12,7 +12,7 @@ use Rattle.machine_record.specs.declared.Board.{Board}
 use Rattle.bus.specs.Place.{placeOf}
 use Rattle.bus.specs.Registers.{byteAt}
 use Rattle.board_step.specs.Act.{acted}
-use Rattle.board_step.specs.Step.{ran, ranFrom, number, refusedBy, stepOf}
+use Rattle.board_step.specs.Step.{ran, ranFrom, refusalOf, refusedBy, stepOf}
 use Rattle.board_events.specs.Answers.{refusalNumber, valueRead}
 use Rattle.board_events.specs.declared.Event.{Event}
 use Rattle.board_events.specs.declared.Event.the-variants.{WriteByte, ReadByte, ReadWord, ConversionEnd, DinPins, LatchLevel, PortPins, Tick, TransferEnd}
@@ -45,29 +45,29 @@ acted-answer b samples e TransferEnd = (refl, refl)
 
 -- the number that a step answers is that of the first check that holds, 0 where none does
 pub answer-number : (b : Board) (memory eeprom : List ℕ) (ev : Event)
-    → refusalNumber (stepOf b memory eeprom ev .answer) ≡ number b memory eeprom ev
+    → refusalNumber (stepOf b memory eeprom ev .answer) ≡ refusalOf b memory eeprom ev
 unfolding stepOf ran
-answer-number b memory eeprom ev = by (eqb (number b memory eeprom ev) 0) refl
+answer-number b memory eeprom ev = by (eqb (refusalOf b memory eeprom ev) 0) refl
   where
-    by : (t : Bool) → eqb (number b memory eeprom ev) 0 ≡ t
+    by : (t : Bool) → eqb (refusalOf b memory eeprom ev) 0 ≡ t
         → refusalNumber
         ((if t then record { board = ranFrom b memory eeprom ev .board; answer = ranFrom b memory eeprom ev .answer }
-        else refusedBy b (number b memory eeprom ev)) .answer)
-        ≡ number b memory eeprom ev
+        else refusedBy b (refusalOf b memory eeprom ev)) .answer)
+        ≡ refusalOf b memory eeprom ev
     by true h = acted-answer b (queue (b .fifo) memory) eeprom ev .0 ∙ sym (eqb-true _ _ h)
     by false h = refl
 
 -- the value that a step answers is what the event brings, and 0 where it is refused
 pub answer-value : (b : Board) (memory eeprom : List ℕ) (ev : Event)
     → valueRead (stepOf b memory eeprom ev .answer)
-    ≡ (if eqb (number b memory eeprom ev) 0 then valueBrought b (queue (b .fifo) memory) ev else 0)
+    ≡ (if eqb (refusalOf b memory eeprom ev) 0 then valueBrought b (queue (b .fifo) memory) ev else 0)
 unfolding stepOf ran
-answer-value b memory eeprom ev = by (eqb (number b memory eeprom ev) 0)
+answer-value b memory eeprom ev = by (eqb (refusalOf b memory eeprom ev) 0)
   where
     by : (t : Bool)
         → valueRead
         ((if t then record { board = ranFrom b memory eeprom ev .board; answer = ranFrom b memory eeprom ev .answer }
-        else refusedBy b (number b memory eeprom ev)) .answer)
+        else refusedBy b (refusalOf b memory eeprom ev)) .answer)
         ≡ (if t then valueBrought b (queue (b .fifo) memory) ev else 0)
     by true = acted-answer b (queue (b .fifo) memory) eeprom ev .1
     by false = refl

@@ -18,7 +18,7 @@ use Rattle.bus.specs.Registers.{writeChecks, writtenAt, readChecks, byteAt}
 use Rattle.board_refusal.specs.Refusals.{eventChecks}
 use Rattle.board_step.specs.Act.{acted}
 use Rattle.board_step.specs.Step.{ran, stepOf}
-use Rattle.board_step.specs.States.{State, Works, numberAt, answerAt, afterEvent}
+use Rattle.board_step.specs.States.{State, Works, refusalAt, answerAt, afterEvent}
 use Rattle.board_laws.specs.Answers.{valueBrought, answer-value}
 use Rattle.board_laws.specs.Held.{number-working}
 use Rattle.board_laws.specs.Stretches.{afterEvents, ticksIn, isLoad, NoReset, NoLoad}
@@ -28,18 +28,18 @@ use Rattle.board_events.specs.declared.Event.{Event}
 use Rattle.board_events.specs.declared.Event.the-variants.{WriteByte, ReadByte, ReadWord, ConversionEnd, DinPins, LatchLevel, PortPins, Tick, TransferEnd}
 
 -- ---- a write of 5 that is taken, and one while DACBUSY
-pub load-busy : (s : State) (v : ℕ) → numberAt s (WriteByte 5 v) ≡ 0 → afterEvent s (WriteByte 5 v) .board .outputs .busy ≡ 100
+pub load-busy : (s : State) (v : ℕ) → refusalAt s (WriteByte 5 v) ≡ 0 → afterEvent s (WriteByte 5 v) .board .outputs .busy ≡ 100
 unfolding stepOf ran acted placeOf writtenAt
 load-busy s v h = rw (eq-eqb _ _ h)
 
-load-number : (s : State) (v n : ℕ) → Works s → (if ltb 0 (s .board .outputs .busy) then 6 else 0) ≡ n → numberAt s (WriteByte 5 v) ≡ n
+load-number : (s : State) (v n : ℕ) → Works s → (if ltb 0 (s .board .outputs .busy) then 6 else 0) ≡ n → refusalAt s (WriteByte 5 v) ≡ n
 unfolding eventChecks placeOf writeChecks
 load-number s v n w h = number-working (s .board) (s .memory) (s .eeprom) (WriteByte 5 v) (w .working) (w .long) ∙ h
 
-pub busy-refuses : (s : State) (v : ℕ) → Works s → 0 < s .board .outputs .busy → numberAt s (WriteByte 5 v) ≡ 6
+pub busy-refuses : (s : State) (v : ℕ) → Works s → 0 < s .board .outputs .busy → refusalAt s (WriteByte 5 v) ≡ 6
 busy-refuses s v w h = load-number s v 6 w (rw (lt-ltb 0 (s .board .outputs .busy) h))
 
-pub free-takes : (s : State) (v : ℕ) → Works s → s .board .outputs .busy ≡ 0 → numberAt s (WriteByte 5 v) ≡ 0
+pub free-takes : (s : State) (v : ℕ) → Works s → s .board .outputs .busy ≡ 0 → refusalAt s (WriteByte 5 v) ≡ 0
 free-takes s v w h = load-number s v 0 w (rw h)
 
 -- ---- over a row
@@ -52,10 +52,10 @@ busy-left s w (ev ∷ events) r l =
     omega (arith, one, rest)
 
 -- no write of 5 is taken before the last of the ticks left has come
-off : (s : State) (ev : Event) → Works s → 0 < s .board .outputs .busy → isLoad ev && eqb (numberAt s ev) 0 ≡ false
+off : (s : State) (ev : Event) → Works s → 0 < s .board .outputs .busy → isLoad ev && eqb (refusalAt s ev) 0 ≡ false
 off s (WriteByte n v) w h = by (eqb n 5) refl
   where
-    by : (t : Bool) → eqb n 5 ≡ t → t && eqb (numberAt s (WriteByte n v)) 0 ≡ false
+    by : (t : Bool) → eqb n 5 ≡ t → t && eqb (refusalAt s (WriteByte n v)) 0 ≡ false
     by true e = let at : n ≡ 5 = eqb-true n 5 e in rw (at, busy-refuses s v w h)
     by false e = refl
 off s (ReadByte n) w h = refl
@@ -93,9 +93,9 @@ shown-at-4 s w =
     ap (λ (n : ℕ). bit n 7) (answer-value (s .board) (s .memory) (s .eeprom) (ReadByte 4) ∙ byte)
     ∙ bit-7 (dacbusy (s .board .outputs)) (calbusy (s .board .calibration)) (s .board .pins .din)
   where
-    taken : numberAt s (ReadByte 4) ≡ 0
+    taken : refusalAt s (ReadByte 4) ≡ 0
     taken = number-working (s .board) (s .memory) (s .eeprom) (ReadByte 4) (w .working) (w .long)
 
-    byte : (if eqb (numberAt s (ReadByte 4)) 0 then valueBrought (s .board) (queue (s .board .fifo) (s .memory)) (ReadByte 4) else 0)
+    byte : (if eqb (refusalAt s (ReadByte 4)) 0 then valueBrought (s .board) (queue (s .board .fifo) (s .memory)) (ReadByte 4) else 0)
         ≡ inputBits (s .board .outputs) (s .board .calibration) (s .board .pins .din)
     byte = rw (eq-eqb _ _ taken)

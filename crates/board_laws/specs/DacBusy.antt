@@ -9,7 +9,7 @@ use native.Mathlib.Omega.{arith}
 use borrow.Author.Tests.{lt-ltb}
 use lib.Dec.{ltb}
 use Rattle.base.specs.Fields.{bit}
-use Rattle.board_step.specs.States.{State, Works, numberAt, answerAt, afterEvent}
+use Rattle.board_step.specs.States.{State, Works, refusalAt, answerAt, afterEvent}
 use Rattle.board_laws.specs.Stretches.{afterEvents, ticksIn, NoReset, NoLoad}
 use Rattle.board_laws.specs.StretchSteps.{taken-works, works-on, stretch-works}
 use Rattle.board_laws.specs.BusyLaws.{load-busy, busy-refuses, free-takes, busy-left, held-off, left-of-100, shown-at-4}
@@ -18,11 +18,11 @@ use Rattle.board_events.specs.declared.Event.{Event}
 use Rattle.board_events.specs.declared.Event.the-variants.{WriteByte, ReadByte}
 
 -- a working board, with memories of the right lengths, takes a write of 5 while DACBUSY is 0
-pub taken-when-free : (s : State) (v : ℕ) → Works s → s .board .outputs .busy ≡ 0 → numberAt s (WriteByte 5 v) ≡ 0
+pub taken-when-free : (s : State) (v : ℕ) → Works s → s .board .outputs .busy ≡ 0 → refusalAt s (WriteByte 5 v) ≡ 0
 taken-when-free s v w h = free-takes s v w h
 
 -- ---- a write of 5 that is taken; then any row of events without a reset
-module _ (s : State) (v : ℕ) (taken : numberAt s (WriteByte 5 v) ≡ 0) (events : List Event) (calm : NoReset events) where
+module _ (s : State) (v : ℕ) (taken : refusalAt s (WriteByte 5 v) ≡ 0) (events : List Event) (calm : NoReset events) where
   abbrev loaded : State
   loaded = afterEvent s (WriteByte 5 v)
 
@@ -47,6 +47,6 @@ module _ (s : State) (v : ℕ) (taken : numberAt s (WriteByte 5 v) ≡ 0) (event
   set-before-the-100th h = dacbusy-for-100-ticks (no-load-before h) ∙ lt-ltb (ticksIn events) 100 h
 
   -- each of them is refused by 6
-  pub refused-by-6 : (w : ℕ) → ticksIn events < 100 → numberAt (afterEvents loaded events) (WriteByte 5 w) ≡ 6
+  pub refused-by-6 : (w : ℕ) → ticksIn events < 100 → refusalAt (afterEvents loaded events) (WriteByte 5 w) ≡ 6
   refused-by-6 w h =
       busy-refuses (afterEvents loaded events) w (stretch-works loaded loaded-works events) (omega (arith, h, ticks-left (no-load-before h)))

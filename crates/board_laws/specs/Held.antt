@@ -14,7 +14,7 @@ use Rattle.machine_record.specs.declared.Board.{Board}
 use Rattle.board_refusal.specs.Working.{WorkingBoard, board-to}
 use Rattle.board_refusal.specs.Refusals.{eventChecks, checks}
 use Rattle.board_step.specs.Passed.{Passed}
-use Rattle.board_step.specs.Step.{Ran, ran, number, stepOf, memoryAfter, eepromAfter}
+use Rattle.board_step.specs.Step.{Ran, ran, refusalOf, stepOf, memoryAfter, eepromAfter}
 use Rattle.board_laws.specs.Kept.{ran-holds}
 use Rattle.board_events.specs.declared.Answer.{Answer}
 use Rattle.board_events.specs.declared.Answer.the-variants.{Refused}
@@ -45,7 +45,7 @@ happened h event =
 abbrev pub heldIn : Board → List ℕ → List ℕ → Held
 heldIn b memory eeprom = record { board = b; samples = queue (b .fifo) memory; eeprom = eeprom }
 
-pub number-working : (b : Board) (m e : List ℕ) (ev : Event) → WorkingBoard b m → length e ≡ 128 → number b m e ev ≡ refusal (eventChecks b ev)
+pub number-working : (b : Board) (m e : List ℕ) (ev : Event) → WorkingBoard b m → length e ≡ 128 → refusalOf b m e ev ≡ refusal (eventChecks b ev)
 unfolding checks
 number-working b m e ev w l = rw (eq-eqb (length m) 512 (w .fifo .long), eq-eqb (length e) 128 l, board-to b m w)
 
@@ -57,14 +57,14 @@ pub step-held : (b : Board) (m e : List ℕ) (ev : Event) → WorkingBoard b m �
 unfolding stepOf memoryAfter eepromAfter heldAnswer happened
 step-held b m e ev w l = by (eqb (refusal (eventChecks b ev)) 0) refl
   where
-    same : number b m e ev ≡ refusal (eventChecks b ev)
+    same : refusalOf b m e ev ≡ refusal (eventChecks b ev)
     same = number-working b m e ev w l
 
     by : (t : Bool) → eqb (refusal (eventChecks b ev)) 0 ≡ t → AsHeld b m e ev
     by true h =
-        let n : eqb (number b m e ev) 0 ≡ true = ap (λ (x : ℕ). eqb x 0) same ∙ h in
+        let n : eqb (refusalOf b m e ev) 0 ≡ true = ap (λ (x : ℕ). eqb x 0) same ∙ h in
         let p : Passed b m e ev = record { works = w; long = l; event = eqb-true _ _ h } in
         record { answer = rw (n, h); held = rw (n, h, ran-holds b m e ev p) }
     by false h =
-        let n : eqb (number b m e ev) 0 ≡ false = ap (λ (x : ℕ). eqb x 0) same ∙ h in
+        let n : eqb (refusalOf b m e ev) 0 ≡ false = ap (λ (x : ℕ). eqb x 0) same ∙ h in
         record { answer = rw (n, h, same); held = rw (n, h) }

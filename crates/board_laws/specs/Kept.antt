@@ -37,7 +37,7 @@ use Rattle.board_refusal.specs.Refusals.{eventChecks}
 use Rattle.board_step.specs.Sampled.{effect-works, effect-holds}
 use Rattle.board_step.specs.Passed.{Passed, all-passed, din-levels-le}
 use Rattle.board_step.specs.Act.{dinLevels, acted, eepromActed}
-use Rattle.board_step.specs.Step.{ran, ranFrom, number, refusedBy, stepOf, memoryAfter, eepromAfter}
+use Rattle.board_step.specs.Step.{ran, ranFrom, refusalOf, refusedBy, stepOf, memoryAfter, eepromAfter}
 use Rattle.board_events.specs.declared.Event.{Event}
 use Rattle.board_events.specs.declared.Event.the-variants.{WriteByte, ReadByte, ReadWord, ConversionEnd, DinPins, LatchLevel, PortPins, Tick, TransferEnd}
 
@@ -91,28 +91,29 @@ module _ (b : Board) (m e : List ℕ) (ev : Event) where
   -- a working board stays working, and its EEPROM keeps its length
   pub step-kept : WorkingBoard b m → WorkingBoard (stepOf b m e ev .board) (memoryAfter b m e ev)
   unfolding stepOf memoryAfter
-  step-kept w = by (eqb (number b m e ev) 0) refl
+  step-kept w = by (eqb (refusalOf b m e ev) 0) refl
     where
-      by : (t : Bool) → eqb (number b m e ev) 0 ≡ t
-          → WorkingBoard ((if t then record { board = ranFrom b m e ev .board; answer = ranFrom b m e ev .answer } else refusedBy b (number b m e ev)) .board)
+      by : (t : Bool) → eqb (refusalOf b m e ev) 0 ≡ t
+          → WorkingBoard
+          ((if t then record { board = ranFrom b m e ev .board; answer = ranFrom b m e ev .answer } else refusedBy b (refusalOf b m e ev)) .board)
           (if t then layout (ranFrom b m e ev .board .fifo) (ranFrom b m e ev .samples) else m)
       by true h = ran-works b m e ev (all-passed b m e ev (eqb-true _ _ h))
       by false h = w
 
   pub eeprom-kept : length (eepromAfter b m e ev) ≡ length e
   unfolding eepromAfter ran
-  eeprom-kept = by (eqb (number b m e ev) 0)
+  eeprom-kept = by (eqb (refusalOf b m e ev) 0)
     where
       by : (t : Bool) → length (if t then ranFrom b m e ev .eeprom else e) ≡ length e
       by true = eeprom-long b e ev
       by false = refl
 
   -- what is refused changes nothing: the record, the sample memory and the EEPROM are as they were
-  pub refused-unchanged : (number b m e ev ≡ 0 → ⊥)
-      → (stepOf b m e ev ≡ refusedBy b (number b m e ev)) × (memoryAfter b m e ev ≡ m) × (eepromAfter b m e ev ≡ e)
+  pub refused-unchanged : (refusalOf b m e ev ≡ 0 → ⊥)
+      → (stepOf b m e ev ≡ refusedBy b (refusalOf b m e ev)) × (memoryAfter b m e ev ≡ m) × (eepromAfter b m e ev ≡ e)
   unfolding stepOf memoryAfter eepromAfter
   refused-unchanged h =
-      let t : eqb (number b m e ev) 0 ≡ false = ne-eqb _ _ h in
+      let t : eqb (refusalOf b m e ev) 0 ≡ false = ne-eqb _ _ h in
       (rw t, rw t, rw t)
 
 -- ---- the fresh board with fresh stores

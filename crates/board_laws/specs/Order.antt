@@ -17,7 +17,7 @@ use Rattle.bus.specs.declared.Place.{Place}
 use Rattle.bus.specs.declared.Place.the-variants.{Base0, Base1, Base2, Base3, Base4, Base5, Base6, Base7}
 use Rattle.bus.specs.declared.Place.the-variants.{Base8, Base9, Base10, Base11, Count, ControlWord, PortData, PortControl}
 use Rattle.bus.specs.declared.Place.the-variants.{Reserved, Auxiliary, CalData, CalAddress, CalBase14, CalBase15, Outside}
-use Rattle.board_step.specs.Step.{number}
+use Rattle.board_step.specs.Step.{refusalOf}
 use Rattle.board_refusal.specs.Refusals.{eventChecks, checks}
 use Rattle.board_events.specs.declared.Event.{Event}
 use Rattle.board_events.specs.declared.Event.the-variants.{WriteByte, ReadByte, ReadWord, ConversionEnd, DinPins, LatchLevel, PortPins, Tick, TransferEnd}
@@ -139,5 +139,5 @@ ordered-bound n (c ∷ cs) h =
     let k = both (ltb n (rank (c .number))) (ordered (rank (c .number)) cs) h in
     choice-le (c .holds) (listed n (c .number) (k .0)) (ordered-bound (rank (c .number)) cs (k .1))
 
-pub refusal-bound : (b : Board) (memory eeprom : List ℕ) (ev : Event) → number b memory eeprom ev ≤ 10
+pub refusal-bound : (b : Board) (memory eeprom : List ℕ) (ev : Event) → refusalOf b memory eeprom ev ≤ 10
 refusal-bound b memory eeprom ev = ordered-bound 0 (checks b memory eeprom ev) (check-order b memory eeprom ev)

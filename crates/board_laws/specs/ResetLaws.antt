@@ -13,7 +13,7 @@ use Rattle.fifo.specs.Queue.{layout, emptyFifo}
 use Rattle.fifo.specs.Queue.Laws.{clear-works}
 use Rattle.fifo.specs.Queue.Places.{free-zero}
 use Rattle.machine_record.specs.Parts.{withFifo}
-use Rattle.machine_record.specs.Fresh.{numberOf, jumpersOf}
+use Rattle.machine_record.specs.Fresh.{jumpersNumber, jumpersOf}
 use Rattle.machine_record.specs.Working.{WorkingMachine}
 use Rattle.machine_record.specs.declared.Board.{Board}
 use Rattle.machine_reset.specs.Reset.{isReset, boardReset, miscWritten}
@@ -22,13 +22,13 @@ use Rattle.bus.specs.Registers.{writeChecks, writtenAt, writeEffect}
 use Rattle.board_refusal.specs.Refusals.{eventChecks}
 use Rattle.board_step.specs.Act.{acted, eepromActed}
 use Rattle.board_step.specs.Step.{ran, stepOf, memoryAfter, eepromAfter}
-use Rattle.board_step.specs.States.{State, Works, numberAt, answerAt, afterEvent}
+use Rattle.board_step.specs.States.{State, Works, refusalAt, answerAt, afterEvent}
 use Rattle.board_laws.specs.Held.{number-working}
 use Rattle.board_events.specs.declared.Answer.the-variants.{Done}
 use Rattle.board_events.specs.declared.Event.the-variants.{WriteByte}
 
 -- a working record keeps its jumpers as their number
-kept-as : (n : ℕ) → n ≤ 3 → numberOf (jumpersOf n) ≡ n
+kept-as : (n : ℕ) → n ≤ 3 → jumpersNumber (jumpersOf n) ≡ n
 kept-as zero h = refl
 kept-as (suc zero) h = refl
 kept-as (suc (suc zero)) h = refl
@@ -36,11 +36,11 @@ kept-as (suc (suc (suc zero))) h = refl
 kept-as (suc (suc (suc (suc n)))) h = absurd (omega arith)
 
 pub wiring-whole : (b : Board) → WorkingMachine b
-    → record { inputs = numberOf (jumpersOf (b .wiring .inputs)); zeroscale = flag (on (b .wiring .zeroscale)) } ≡ b .wiring
+    → record { inputs = jumpersNumber (jumpersOf (b .wiring .inputs)); zeroscale = flag (on (b .wiring .zeroscale)) } ≡ b .wiring
 wiring-whole b w = rw (kept-as (b .wiring .inputs) (w .inputs), flag-on (b .wiring .zeroscale) (w .zeroscale))
 
 module _ (s : State) (v : ℕ) (w : Works s) where
-  taken : eqb (numberAt s (WriteByte 8 v)) 0 ≡ true
+  taken : eqb (refusalAt s (WriteByte 8 v)) 0 ≡ true
   unfolding eventChecks placeOf writeChecks
   taken = eq-eqb _ _ (number-working (s .board) (s .memory) (s .eeprom) (WriteByte 8 v) (w .working) (w .long))
 

@@ -16,7 +16,7 @@ use Rattle.board_refusal.specs.Refusals.{eventChecks}
 use Rattle.board_step.specs.Passed.{all-passed}
 use Rattle.board_step.specs.Step.{ran, ranFrom, stepOf}
 use Rattle.board_step.specs.declared.Outcome.{Outcome}
-use Rattle.board_step.specs.States.{State, Works, numberAt, afterEvent}
+use Rattle.board_step.specs.States.{State, Works, refusalAt, afterEvent}
 use Rattle.board_laws.specs.Kept.{step-kept, eeprom-kept, fresh-works}
 use Rattle.board_laws.specs.Held.{number-working}
 use Rattle.board_laws.specs.Begins.{resets}
@@ -26,7 +26,7 @@ use Rattle.board_events.specs.declared.Event.{Event}
 use Rattle.board_events.specs.declared.Event.the-variants.{WriteByte, ReadByte, ReadWord, ConversionEnd, DinPins, LatchLevel, PortPins, Tick, TransferEnd}
 
 -- ---- a board that works goes on to work
-pub taken-works : (s : State) (ev : Event) → numberAt s ev ≡ 0 → Works s
+pub taken-works : (s : State) (ev : Event) → refusalAt s ev ≡ 0 → Works s
 taken-works s ev h = let p = all-passed (s .board) (s .memory) (s .eeprom) ev h in record { working = p .works; long = p .long }
 
 pub works-on : (s : State) (ev : Event) → Works s → Works (afterEvent s ev)
@@ -64,18 +64,18 @@ module _ (s : State) (ev : Event) (w : Works s) where
   abbrev made : Board
   made = ranFrom (s .board) (s .memory) (s .eeprom) ev .board
 
-  after-one : (P : Board → Type 0) → (eqb (numberAt s ev) 0 ≡ true → P made) → (ticksOf ev ≡ 0 → P (s .board)) → P (afterEvent s ev .board)
+  after-one : (P : Board → Type 0) → (eqb (refusalAt s ev) 0 ≡ true → P made) → (ticksOf ev ≡ 0 → P (s .board)) → P (afterEvent s ev .board)
   unfolding stepOf
   after-one P f g =
-      by-test (λ (o : Outcome). P (o .board)) (eqb (numberAt s ev) 0) f
+      by-test (λ (o : Outcome). P (o .board)) (eqb (refusalAt s ev) 0) f
       (λ t. g (unticked (s .board) ev (ap (λ (n : ℕ). eqb n 0) (sym (number-working (s .board) (s .memory) (s .eeprom) ev (w .working) (w .long))) ∙ t)))
 
   -- ---- DACBUSY's count
-  pub busy-step : resets ev ≡ false → isLoad ev && eqb (numberAt s ev) 0 ≡ false → afterEvent s ev .board .outputs .busy ≡ s .board .outputs .busy - ticksOf ev
+  pub busy-step : resets ev ≡ false → isLoad ev && eqb (refusalAt s ev) 0 ≡ false → afterEvent s ev .board .outputs .busy ≡ s .board .outputs .busy - ticksOf ev
   unfolding ran
   busy-step r l =
       after-one (λ (c : Board). c .outputs .busy ≡ s .board .outputs .busy - ticksOf ev)
-      (λ t. busy-moves (s .board) (oldestOf (queue (s .board .fifo) (s .memory))) (s .eeprom) ev r (under-taken (isLoad ev) (eqb (numberAt s ev) 0) l t))
+      (λ t. busy-moves (s .board) (oldestOf (queue (s .board .fifo) (s .memory))) (s .eeprom) ev r (under-taken (isLoad ev) (eqb (refusalAt s ev) 0) l t))
       (λ z. omega arith)
 
   -- ---- the dividers

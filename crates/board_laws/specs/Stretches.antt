@@ -9,7 +9,7 @@ use lib.Dec.{eqb}
 use Rattle.fifo.specs.Queue.{layout, emptyFifo}
 use Rattle.machine_record.specs.Fresh.{freshBoard}
 use Rattle.machine_record.specs.declared.Jumpers.{Jumpers}
-use Rattle.board_step.specs.States.{State, numberAt, afterEvent}
+use Rattle.board_step.specs.States.{State, refusalAt, afterEvent}
 use Rattle.board_laws.specs.Begins.{resets}
 use Rattle.board_events.specs.declared.Event.{Event}
 use Rattle.board_events.specs.declared.Event.the-variants.{WriteByte, ReadByte, ReadWord, ConversionEnd, DinPins, LatchLevel, PortPins, Tick, TransferEnd}
@@ -54,7 +54,7 @@ isLoad TransferEnd = false
 
 abbrev pub NoLoad : State → List Event → Type 0
 NoLoad s [] = Unit {0}
-NoLoad s (event ∷ events) = (isLoad event && eqb (numberAt s event) 0 ≡ false) × NoLoad (afterEvent s event) events
+NoLoad s (event ∷ events) = (isLoad event && eqb (refusalAt s event) 0 ≡ false) × NoLoad (afterEvent s event) events
 
 -- ---- a fresh board with fresh stores
 abbrev pub freshState : Jumpers → Bool → State

@@ -16,7 +16,7 @@ use Rattle.bus.specs.Registers.{readChecks, byteAt, afterRead, readEffect}
 use Rattle.board_refusal.specs.Refusals.{eventChecks, checks}
 use Rattle.board_step.specs.Act.{acted, eepromActed}
 use Rattle.board_step.specs.Step.{ran, stepOf, memoryAfter, eepromAfter}
-use Rattle.board_step.specs.States.{State, Works, numberAt, answerAt, afterEvent}
+use Rattle.board_step.specs.States.{State, Works, refusalAt, answerAt, afterEvent}
 use Rattle.board_laws.specs.Answers.{valueBrought, answer-value}
 use Rattle.board_laws.specs.Held.{number-working}
 use Rattle.board_laws.specs.StretchSteps.{taken-works}
@@ -25,20 +25,20 @@ use Rattle.board_events.specs.declared.Event.the-variants.{ReadByte, ReadWord}
 
 module _ (s : State) where
   -- ---- the three are refused by one number
-  pub low-number : numberAt s (ReadByte 0) ≡ numberAt s (ReadWord 0)
+  pub low-number : refusalAt s (ReadByte 0) ≡ refusalAt s (ReadWord 0)
   unfolding checks eventChecks placeOf readChecks
   low-number = refl
 
-  pub high-number : numberAt s (ReadByte 1) ≡ numberAt s (ReadWord 0)
+  pub high-number : refusalAt s (ReadByte 1) ≡ refusalAt s (ReadWord 0)
   unfolding checks eventChecks placeOf readChecks
   high-number = refl
 
   -- ---- the read of 0 changes nothing, that of 1 does what the word read does
   pub low-keeps : afterEvent s (ReadByte 0) ≡ s
   unfolding stepOf memoryAfter eepromAfter ran acted eepromActed placeOf readEffect afterRead
-  low-keeps = by (eqb (numberAt s (ReadByte 0)) 0) refl
+  low-keeps = by (eqb (refusalAt s (ReadByte 0)) 0) refl
     where
-      by : (t : Bool) → eqb (numberAt s (ReadByte 0)) 0 ≡ t → afterEvent s (ReadByte 0) ≡ s
+      by : (t : Bool) → eqb (refusalAt s (ReadByte 0)) 0 ≡ t → afterEvent s (ReadByte 0) ≡ s
       by true h =
           let w = taken-works s (ReadByte 0) (eqb-true _ _ h) in
           rw h (ap (λ (m : List ℕ). record { board = s .board; memory = m; eeprom = s .eeprom }) (layout-queue (s .board .fifo) (s .memory) (w .working .fifo)))
@@ -46,9 +46,9 @@ module _ (s : State) where
 
   pub high-takes : afterEvent s (ReadWord 0) ≡ afterEvent s (ReadByte 1)
   unfolding stepOf memoryAfter eepromAfter ran acted eepromActed placeOf readEffect afterRead
-  high-takes = by (eqb (numberAt s (ReadWord 0)) 0) refl
+  high-takes = by (eqb (refusalAt s (ReadWord 0)) 0) refl
     where
-      by : (t : Bool) → eqb (numberAt s (ReadWord 0)) 0 ≡ t → afterEvent s (ReadWord 0) ≡ afterEvent s (ReadByte 1)
+      by : (t : Bool) → eqb (refusalAt s (ReadWord 0)) 0 ≡ t → afterEvent s (ReadWord 0) ≡ afterEvent s (ReadByte 1)
       by true h = rw (high-number, h)
       by false h = rw (high-number, h)
 
@@ -57,7 +57,7 @@ module _ (s : State) where
   oldest = oldestOf (queue (s .board .fifo) (s .memory))
 
   abbrev pub whole : Bool
-  whole = eqb (numberAt s (ReadWord 0)) 0
+  whole = eqb (refusalAt s (ReadWord 0)) 0
 
   pub word-of : valueRead (answerAt s (ReadWord 0)) ≡ (if whole then oldest else 0)
   unfolding valueBrought

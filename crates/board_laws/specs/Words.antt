@@ -4,7 +4,7 @@
 use Prim.Native.Nat.{_+_, _*_}
 use mathlib.Core.Path.{_≡_, sym, ap, _∙_}
 use native.Mathlib.Omega.{arith}
-use Rattle.board_step.specs.States.{State, Works, numberAt, answerAt, afterEvent}
+use Rattle.board_step.specs.States.{State, Works, refusalAt, answerAt, afterEvent}
 use Rattle.board_laws.specs.Answers.{answer-number}
 use Rattle.board_laws.specs.WordLaws.{low-number, high-number, low-keeps, high-takes, word-of, low-of, high-of, oldest, whole, bytes-joined, none-leaves}
 use Rattle.board_laws.specs.WordLaws.{none-read}
@@ -36,7 +36,7 @@ module _ (s : State) where
     number (ReadWord 0) ∙ sym (ap (λ (x : State). refusalNumber (answerAt x (ReadByte 1))) (low-keeps s) ∙ number (ReadByte 1) ∙ high-number s),
   )
     where
-      number : (ev : Event) → refusalNumber (answerAt s ev) ≡ numberAt s ev
+      number : (ev : Event) → refusalNumber (answerAt s ev) ≡ refusalAt s ev
       number ev = answer-number (s .board) (s .memory) (s .eeprom) ev
 
   -- ---- "Empty: FF, no change": a working board that holds no sample

@@ -55,7 +55,7 @@ module _ (b : Board) (m e : List ℕ) where
   transfer-refused o k h = refused b m e TransferEnd o (rw (sym k ∙ h)) refl
 
   pub transfer : {t : Bool} {x : Calibration} {e′ : List ℕ} → Opened b m e → t ≡ nothingRuns (b .calibration) → t ≡ false
-      → (x ≡ transfers.ended (b .calibration) e) × (e′ ≡ transfers.eepromEnded (b .calibration) e)
+      → (x ≡ transfers.calibrationEnded (b .calibration) e) × (e′ ≡ transfers.eepromEnded (b .calibration) e)
       → Promised b m e TransferEnd (record { board = withCalibration b x; answer = Done }) m e′
   unfolding eventChecks ran acted eepromActed
   transfer o k h x =

@@ -109,7 +109,7 @@ module _ (b : Board) {n : ℕ} {g : Gates} {p : Bool} (gate : g ≡ gates b) whe
 
 -- ---- the whole event
 pub tick : (b : Board) (m e : List ℕ) {h th : ℕ} {k0 k1 k2 : Counter} {q : Requests} {v : Converter} {w : Outputs} {l : Clocks} → Opened b m e
-    → h ≡ hundredOf b → th ≡ thousandOf b → First b k0 q → Second b k1 k2 v → w ≡ outputs.ticked (b .outputs)
+    → h ≡ hundredOf b → th ≡ thousandOf b → First b k0 q → Second b k1 k2 v → w ≡ outputs.dacTicked (b .outputs)
     → l ≡ record { timer = record { counter0 = k0; counter1 = k1; counter2 = k2 }; hundred = h; thousand = th }
     → Promised b m e Tick (record { board = withConverter (withRequests (withClocks (withOutputs b w) l) q) v; answer = Done }) m e
 unfolding eventChecks ran acted eepromActed clocksTicked

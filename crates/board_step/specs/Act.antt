@@ -18,7 +18,7 @@ use Rattle.board_events.specs.declared.Event.the-variants.{WriteByte, ReadByte,
 
 -- a transfer ends: "Data and address are read when the transfer ends"
 abbrev pub transferEnded : Board → List ℕ → Board
-transferEnded b eeprom = withCalibration b (transfers.ended (b .calibration) eeprom)
+transferEnded b eeprom = withCalibration b (transfers.calibrationEnded (b .calibration) eeprom)
 
 -- DIN3-0 take the levels of bits 3-0; a number above 15 is refused
 abbrev pub dinLevels : Din → ℕ

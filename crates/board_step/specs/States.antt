@@ -5,7 +5,7 @@ use mathlib.Core.List.{List}
 use lib.ListN.{length}
 use Rattle.machine_record.specs.declared.Board.{Board}
 use Rattle.board_refusal.specs.Working.{WorkingBoard}
-use Rattle.board_step.specs.Step.{number, stepOf, memoryAfter, eepromAfter}
+use Rattle.board_step.specs.Step.{refusalOf, stepOf, memoryAfter, eepromAfter}
 use Rattle.board_events.specs.declared.Answer.{Answer}
 use Rattle.board_events.specs.declared.Event.{Event}
 
@@ -20,8 +20,8 @@ pub record Works (s : State) : Type 0 where
   pub long : length (s .eeprom) ≡ 128
 
 -- ---- one event: the number that it is refused by (0: it is not), its answer, and what it leaves
-abbrev pub numberAt : State → Event → ℕ
-numberAt s event = number (s .board) (s .memory) (s .eeprom) event
+abbrev pub refusalAt : State → Event → ℕ
+refusalAt s event = refusalOf (s .board) (s .memory) (s .eeprom) event
 
 abbrev pub answerAt : State → Event → Answer
 answerAt s event = stepOf (s .board) (s .memory) (s .eeprom) event .answer

@@ -66,21 +66,21 @@ abbrev pub ranFrom : Board → List ℕ → List ℕ → Event → Ran
 ranFrom b memory eeprom event = ran b (queue (b .fifo) memory) eeprom event
 
 -- the number that it is refused by; 0: not refused
-abbrev pub number : Board → List ℕ → List ℕ → Event → ℕ
-number b memory eeprom event = refusal (checks b memory eeprom event)
+abbrev pub refusalOf : Board → List ℕ → List ℕ → Event → ℕ
+refusalOf b memory eeprom event = refusal (checks b memory eeprom event)
 
 unfoldable pub stepOf : Board → List ℕ → List ℕ → Event → Outcome
 stepOf b memory eeprom event =
-    if eqb (number b memory eeprom event) 0
+    if eqb (refusalOf b memory eeprom event) 0
     then record { board = ranFrom b memory eeprom event .board; answer = ranFrom b memory eeprom event .answer }
-    else refusedBy b (number b memory eeprom event)
+    else refusedBy b (refusalOf b memory eeprom event)
 
 unfoldable pub memoryAfter : Board → List ℕ → List ℕ → Event → List ℕ
 memoryAfter b memory eeprom event =
-    if eqb (number b memory eeprom event) 0
+    if eqb (refusalOf b memory eeprom event) 0
     then layout (ranFrom b memory eeprom event .board .fifo) (ranFrom b memory eeprom event .samples)
     else memory
 
 unfoldable pub eepromAfter : Board → List ℕ → List ℕ → Event → List ℕ
 eepromAfter b memory eeprom event =
-    if eqb (number b memory eeprom event) 0 then ranFrom b memory eeprom event .eeprom else eeprom
+    if eqb (refusalOf b memory eeprom event) 0 then ranFrom b memory eeprom event .eeprom else eeprom

@@ -4,7 +4,7 @@ use mathlib.Core.List.{List}
 use Prim.Native.Nat.{ℕ}
 use Rattle.machine_record.specs.declared.Board.{Board}
 use Rattle.machine_clock.specs.Clock.{gates}
-use Rattle.machine_tick.specs.InPlace.{clocksTicked, broughtBy, tick-of}
+use Rattle.machine_tick.specs.InPlace.{clocksTicked, tickedTo, tick-of}
 use Rattle.machine_tick.specs.Kept.{ticked-works}
 use Rattle.machine_record.specs.Working.{WorkingMachine}
 use Rattle.board_refusal.specs.Refusals.{eventChecks}
@@ -17,7 +17,7 @@ use Rattle.board_events.specs.declared.Event.the-variants.{Tick}
 
 -- the record, its parts changed in place
 abbrev pub tickedBoard : Board → Board
-tickedBoard b = broughtBy b (clocksTicked (b .registers .counting) (gates b) (b .clocks))
+tickedBoard b = tickedTo b (clocksTicked (b .registers .counting) (gates b) (b .clocks))
 
 pub tick-step : (b : Board) (m e : List ℕ) → Opened b m e → Promised b m e Tick (record { board = tickedBoard b; answer = Done }) m e
 unfolding eventChecks ran acted eepromActed

@@ -17,7 +17,7 @@ use Rattle.fifo.specs.declared.Fifo.{Fifo}
 use Rattle.converter.specs.Registers.{writtenScanen}
 use Rattle.converter.specs.declared.channels.Converter.{Converter}
 use Rattle.requests.specs.Registers.{writtenFifoen}
-use Rattle.requests.specs.Requests.{cleared}
+use Rattle.requests.specs.Requests.{flagsCleared}
 use Rattle.requests.specs.declared.Requests.{Requests}
 use Rattle.calibration_registers.specs.Registers.{keyForgotten}
 use Rattle.calibration_registers.specs.declared.Calibration.{Calibration}
@@ -91,7 +91,7 @@ module _ (b : Board) (v : ℕ) {t : Bool} (k : t ≡ isReset v) where
   unfolding miscWritten
   misc-reset h d = d ∙ sym (chosen _ _ k h)
 
-  pub misc-cleared : {q : Requests} → t ≡ false → v / 8 % 2 ≡ 1 → q ≡ cleared (b .requests) → withRequests b q ≡ miscWritten b v
+  pub misc-cleared : {q : Requests} → t ≡ false → v / 8 % 2 ≡ 1 → q ≡ flagsCleared (b .requests) → withRequests b q ≡ miscWritten b v
   unfolding miscWritten requestsCleared
   misc-cleared h i q = rw (q, sym k ∙ h, i)
 

@@ -30,8 +30,8 @@ eepromEndedBy RunCal c eeprom = eeprom
 eepromEndedBy TrimDac c eeprom = eeprom
 
 -- the calibration, and the EEPROM, after the end of the transfer that runs
-unfoldable pub ended : Calibration → List ℕ → Calibration
-ended c eeprom = endedBy (transferOf (c .transfer)) c eeprom
+unfoldable pub calibrationEnded : Calibration → List ℕ → Calibration
+calibrationEnded c eeprom = endedBy (transferOf (c .transfer)) c eeprom
 
 unfoldable pub eepromEnded : Calibration → List ℕ → List ℕ
 eepromEnded c eeprom = eepromEndedBy (transferOf (c .transfer)) c eeprom

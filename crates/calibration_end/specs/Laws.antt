@@ -8,7 +8,7 @@ use Rattle.calibration_transfers.specs.declared.Transfer.{Transfer}
 use Rattle.calibration_transfers.specs.declared.Transfer.the-variants.{NoTransfer, EepromRead, EepromWrite, RunCal, TrimDac}
 use Rattle.calibration_registers.specs.declared.Calibration.{Calibration}
 use Rattle.calibration_transfers.specs.Transfers.{transferOf}
-use Rattle.calibration_end.specs.Ends.{endedBy, eepromEndedBy, ended, eepromEnded}
+use Rattle.calibration_end.specs.Ends.{endedBy, eepromEndedBy, calibrationEnded, eepromEnded}
 use Rattle.calibration_registers.specs.Registers.{commandWritten}
 use Rattle.calibration_registers.specs.Working.{WorkingCalibration}
 
@@ -19,8 +19,8 @@ ended-by-works EepromWrite c eeprom w = omega arith
 ended-by-works RunCal c eeprom w = omega arith
 ended-by-works TrimDac c eeprom w = omega arith
 
-pub ended-works : (c : Calibration) (eeprom : List ℕ) → WorkingCalibration c → WorkingCalibration (ended c eeprom)
-unfolding ended
+pub ended-works : (c : Calibration) (eeprom : List ℕ) → WorkingCalibration c → WorkingCalibration (calibrationEnded c eeprom)
+unfolding calibrationEnded
 ended-works c eeprom w = ended-by-works (transferOf (c .transfer)) c eeprom w
 
 -- ---- the lengths: a transfer's end leaves the EEPROM as long as it was, and the TrimDAC at eight values
@@ -35,8 +35,8 @@ eeprom-length c eeprom = go (transferOf (c .transfer))
     go RunCal = refl
     go TrimDac = refl
 
-pub trim-length : (c : Calibration) (eeprom : List ℕ) → length (c .trim) ≡ 8 → length eeprom ≡ 128 → length ((ended c eeprom) .trim) ≡ 8
-unfolding ended
+pub trim-length : (c : Calibration) (eeprom : List ℕ) → length (c .trim) ≡ 8 → length eeprom ≡ 128 → length ((calibrationEnded c eeprom) .trim) ≡ 8
+unfolding calibrationEnded
 trim-length c eeprom h k = go (transferOf (c .transfer))
   where
     go : (t : Transfer) → length ((endedBy t c eeprom) .trim) ≡ 8
@@ -53,16 +53,16 @@ unfolding eepromEnded
 write-ends c eeprom = refl
 
 -- an EEPROM read: register 12 shows the byte at the address
-pub read-ends : (c : Calibration) (eeprom : List ℕ) → (ended (commandWritten c 0xC0) eeprom) .value ≡ getD eeprom (c .address) 0
-unfolding ended
+pub read-ends : (c : Calibration) (eeprom : List ℕ) → (calibrationEnded (commandWritten c 0xC0) eeprom) .value ≡ getD eeprom (c .address) 0
+unfolding calibrationEnded
 read-ends c eeprom = refl
 
 -- RUNCAL: the TrimDAC is EEPROM 0-7
-pub runcal-ends : (c : Calibration) (eeprom : List ℕ) → (ended (commandWritten c 0x20) eeprom) .trim ≡ take 8 eeprom
-unfolding ended
+pub runcal-ends : (c : Calibration) (eeprom : List ℕ) → (calibrationEnded (commandWritten c 0x20) eeprom) .trim ≡ take 8 eeprom
+unfolding calibrationEnded
 runcal-ends c eeprom = refl
 
 -- TDACEN: the TrimDAC takes the byte at the three low bits of the address
-pub trimdac-ends : (c : Calibration) (eeprom : List ℕ) → (ended (commandWritten c 0x08) eeprom) .trim ≡ set (c .trim) (c .address % 8) (c .value)
-unfolding ended
+pub trimdac-ends : (c : Calibration) (eeprom : List ℕ) → (calibrationEnded (commandWritten c 0x08) eeprom) .trim ≡ set (c .trim) (c .address % 8) (c .value)
+unfolding calibrationEnded
 trimdac-ends c eeprom = refl

@@ -6,7 +6,7 @@ ghost use mathlib.Core.Path.{_≡_};
 ghost use lib.ListN.{length, set, take};
 ghost use Prim.Native.Nat.{_%_};
 ghost use Rattle.calibration_registers.specs.Working.{WorkingCalibration};
-ghost use Rattle.calibration_end.specs.Ends.{stopped, endedBy, eepromEndedBy, ended, eepromEnded};
+ghost use Rattle.calibration_end.specs.Ends.{stopped, endedBy, eepromEndedBy, calibrationEnded, eepromEnded};
 
 // No transfer runs any more; register 12 and the TrimDAC are as given.
 fn stop(c: Calibration, value: u8, trim: [u8; 8]) -> Calibration
@@ -82,7 +82,7 @@ fn store_by(t: Transfer, c: Calibration, eeprom: &mut [u8])
 // The transfer that runs ends: it does its work, and none runs any more.
 pub fn end_transfer(c: Calibration, eeprom: &mut [u8]) -> Calibration
     requires { ⌜ (length (now eeprom) ≡ 128) × WorkingCalibration c ⌝ }
-    ensures { λ r. ⌜ r ≡ ended c (now (eeprom .entry)) ⌝ }
+    ensures { λ r. ⌜ r ≡ calibrationEnded c (now (eeprom .entry)) ⌝ }
     ensures { λ r. ⌜ now (eeprom .exit) ≡ eepromEnded c (now (eeprom .entry)) ⌝ }
 {
     let t = calibration_transfers::transfer_of(c.transfer);

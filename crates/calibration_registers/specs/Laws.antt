@@ -28,7 +28,7 @@ value-works c v w = omega arith
 pub address-works : (c : Calibration) (v : ℕ) → WorkingCalibration c → WorkingCalibration (addressWritten c v)
 address-works c v w = omega arith
 
--- a transferCommanded is a known transfer
+-- a command is a known transfer
 pub command-known : (v : ℕ) → transferCommanded v ≤ 4
 command-known v =
     choice-le (bit v 7) (choice-le (bit v 6) (omega arith) (omega arith))

@@ -22,7 +22,7 @@ eebusy c = eepromBusy (transferOf (c .transfer))
 abbrev pub tdbusy : Calibration → Bool
 tdbusy c = trimDacBusy (transferOf (c .transfer))
 
--- ---- the transferCommanded byte of 14: EE_EN EE_RW RUNCAL CMUXEN TDACEN X X X
+-- ---- the command byte of 14: EE_EN EE_RW RUNCAL CMUXEN TDACEN X X X
 -- refusal 9: more than one of EE_EN, RUNCAL, TDACEN
 abbrev pub several : ℕ → Bool
 several v = bit v 7 && bit v 5 || bit v 7 && bit v 3 || bit v 5 && bit v 3
@@ -47,7 +47,7 @@ nothingRuns c = not (calbusy c)
 abbrev pub eepromCommand : ℕ → ℕ
 eepromCommand v = if bit v 6 then 1 else 2
 
--- the number of the transfer that the byte starts (a byte with more than one transferCommanded is refused)
+-- the number of the transfer that the byte starts (a byte with more than one command is refused)
 abbrev pub transferCommanded : ℕ → ℕ
 transferCommanded v =
     if bit v 7 then eepromCommand v

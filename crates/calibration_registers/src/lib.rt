@@ -85,7 +85,7 @@ pub fn write_address(c: Calibration, v: u8) -> Calibration
     d
 }
 
-// The EEPROM transferCommanded of a byte for 14: EE_RW set is a read.
+// The EEPROM command of a byte for 14: EE_RW set is a read.
 fn eeprom_command(v: u8) -> u8
     ensures { λ r. ⌜ r ≡ eepromCommand v ⌝ }
 {

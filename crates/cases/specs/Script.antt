@@ -6,8 +6,8 @@ use Rattle.base.specs.Choice.{if_then_else_}
 use Rattle.cases.specs.declared.script.Script.{Script}
 use Rattle.cases.specs.declared.script.Step.{Step}
 
-abbrev pub beginning : Script
-beginning = record { naming = true; letter = 0; value = 0 }
+abbrev pub freshScript : Script
+freshScript = record { naming = true; letter = 0; value = 0 }
 
 -- '0' to '9', 'A' to 'F'
 abbrev pub isDigit : ℕ → Bool

@@ -1,7 +1,7 @@
 // The line language of the programs that run named cases: a name, a colon, then operations. An operation is a lower-case letter and
 // hex digits (capitals); it is complete at the first byte that is no digit.
 ghost use mathlib.Core.Path.{_≡_};
-ghost use Rattle.cases.specs.Script.{beginning, digitValue, isDigit, named, opened, operated, stepped};
+ghost use Rattle.cases.specs.Script.{freshScript, digitValue, isDigit, named, opened, operated, stepped};
 
 pub struct Script {
     pub naming: bool,
@@ -20,7 +20,7 @@ pub struct Step {
 
 // Before the first line.
 pub fn begin() -> Script
-    ensures { λ r. ⌜ r ≡ beginning ⌝ }
+    ensures { λ r. ⌜ r ≡ freshScript ⌝ }
 {
     Script {
         naming: true,

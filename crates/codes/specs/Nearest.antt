@@ -9,7 +9,7 @@ use borrow.Author.Tests.{le-leb, ltb-true, ltb-false}
 use lib.Dec.{leb, ltb}
 use lib.IntN.{ℤ, pos, _+ℤ_}
 use Rattle.base.specs.Choice.{if_then_else_}
-use Rattle.codes.specs.Output.{Nearest, nearest, given, refused, plain, span, above, Answers}
+use Rattle.codes.specs.Output.{Nearest, nearest, given, refused, asNumber, span, above, AnswersCode}
 
 doubled : (code swing : ℕ) → code * (2 * swing) ≡ 2 * (code * swing)
 doubled code swing = simp mul-left-comm
@@ -60,12 +60,12 @@ module _ (height swing : ℕ) (positive : 0 < swing) where
   halves-upward code other n e = upper code other (ltb code other) refl n e
 
 -- so a code that is answered is the nearest one, and no other is
-chosen : (n r : ℕ) (t : Bool) → r ≡ plain (if t then given n else refused 18) → r < 65536 → r ≡ n
+chosen : (n r : ℕ) (t : Bool) → r ≡ asNumber (if t then given n else refused 18) → r < 65536 → r ≡ n
 chosen n r true e h = e
 chosen n r false e h = absurd (omega arith)
 
-pub answers-nearest : (r below swing : ℕ) (microvolts : ℤ) → 0 < swing → r ≡ plain (above (microvolts +ℤ pos below) swing)
-    → Answers r (span below swing) microvolts
+pub answers-nearest : (r below swing : ℕ) (microvolts : ℤ) → 0 < swing → r ≡ asNumber (above (microvolts +ℤ pos below) swing)
+    → AnswersCode r (span below swing) microvolts
 answers-nearest r below swing microvolts positive e = record {
   is = e;
   near = λ height p small.

@@ -8,13 +8,13 @@ use lib.IntN.{ℤ, pos, negsuc, _+ℤ_}
 use Rattle.base.specs.Choice.{if_then_else_}
 
 -- An answer: a number, or a refusal by its number.
-pub data Answer : Type 0 where
-  given refused : ℕ → Answer
+pub data OutputAnswer : Type 0 where
+  given refused : ℕ → OutputAnswer
 
 -- An answer as one plain number: what is given, or 65536 and the number of the refusal.
-abbrev pub plain : Answer → ℕ
-plain (given n) = n
-plain (refused n) = 65536 + n
+abbrev pub asNumber : OutputAnswer → ℕ
+asNumber (given n) = n
+asNumber (refused n) = 65536 + n
 
 -- An output range: how many microvolts its low end lies below 0 V, and its "maximum voltage swing", "the difference between the highest
 -- nominal output voltage and the lowest output voltage" (13.2), in microvolts.
@@ -33,8 +33,8 @@ unipolar fullScale = span 0 fullScale
 abbrev pub ranges : List Span
 ranges = bipolar 5000000 ∷ bipolar 10000000 ∷ unipolar 5000000 ∷ unipolar 10000000 ∷ []
 
-abbrev pub rangeOf : ℕ → Span
-rangeOf range = getD ranges range unknown
+abbrev pub spanOf : ℕ → Span
+spanOf range = getD ranges range unknown
 
 -- "Output value = (Output voltage) / (Full-scale voltage) * 4096" (unipolar) and ".. * 2048 + 2048" (bipolar) are both the height of the
 -- voltage above the low end, times 4096, over the swing. `code` is the whole number nearest to it, halves upward:
@@ -48,20 +48,20 @@ abbrev pub nearest : ℕ → ℕ → ℕ
 nearest height swing = (height * 8192 + swing) / (2 * swing)
 
 -- "The maximum output value is 4095."
-abbrev pub inTwelveBits : ℕ → Answer
+abbrev pub inTwelveBits : ℕ → OutputAnswer
 inTwelveBits code = if leb code 4095 then given code else refused 18
 
 -- The answer by the height above the low end, which is negative where the voltage is below the range.
-abbrev pub above : ℤ → ℕ → Answer
+abbrev pub above : ℤ → ℕ → OutputAnswer
 above (pos height) swing = inTwelveBits (nearest height swing)
 above (negsuc n) swing = refused 18
 
-abbrev pub outputIn : Span → ℤ → Answer
+abbrev pub outputIn : Span → ℤ → OutputAnswer
 outputIn (span below swing) microvolts = above (microvolts +ℤ pos below) swing
 outputIn unknown microvolts = refused 19
 
-abbrev pub outputOf : ℤ → ℕ → Answer
-outputOf microvolts range = outputIn (rangeOf range) microvolts
+abbrev pub outputOf : ℤ → ℕ → OutputAnswer
+outputOf microvolts range = outputIn (spanOf range) microvolts
 
 -- A code that is answered is nearest to the voltage.
 abbrev pub IsNearest : Span → ℤ → ℕ → Type 0
@@ -74,8 +74,8 @@ OnlyNearest (span below swing) microvolts r = (height code : ℕ) → microvolts
 OnlyNearest unknown microvolts r = Unit
 
 -- What `dmm32_output_code` answers.
-pub record Answers (r : ℕ) (range : Span) (microvolts : ℤ) : Type 0 where
-  pub is : r ≡ plain (outputIn range microvolts)
+pub record AnswersCode (r : ℕ) (range : Span) (microvolts : ℤ) : Type 0 where
+  pub is : r ≡ asNumber (outputIn range microvolts)
   pub near : IsNearest range microvolts r
   pub only : OnlyNearest range microvolts r
 
@@ -87,10 +87,10 @@ abbrev pub msb : ℕ → ℕ → ℕ
 msb code channel = code / 256 + channel * 64
 
 -- The two bytes as one number: the LSB, and 256 times the MSB.
-abbrev pub onChannel : ℕ → Answer → Answer
+abbrev pub onChannel : ℕ → OutputAnswer → OutputAnswer
 onChannel channel (given code) = given (lsb code + 256 * msb code channel)
 onChannel channel (refused n) = refused n
 
 -- The channels are 0 to 3. An unknown channel or range, 19, comes before 18.
-abbrev pub bytesOf : ℤ → ℕ → ℕ → Answer
+abbrev pub bytesOf : ℤ → ℕ → ℕ → OutputAnswer
 bytesOf microvolts range channel = if leb channel 3 then onChannel channel (outputOf microvolts range) else refused 19

@@ -16,7 +16,7 @@ use Rattle.collector_steps.specs.declared.Handed.the-variants.{Nothing, StartEn
 use Rattle.collector_steps.specs.declared.Taken.{Taken}
 use Rattle.collector_phases.specs.Phases.{phaseOf, accessIn, reads}
 use Rattle.collector_phases.specs.Fit.{FitIn}
-use Rattle.collector_records.specs.Records.{begun}
+use Rattle.collector_records.specs.Records.{firstRecord}
 use Rattle.collector.specs.Steps.{Step}
 use Rattle.collector.specs.Steps.{stopped, poll-wide, poll-free, poll-again, poll-last, ranged, cleared, lowered, raised, went}
 use Rattle.collector.specs.Steps.{look-wide, look-contradicts, look-empty, look-full, look-few, taken, drained, closed, stands}
@@ -114,7 +114,7 @@ step-holds c a Stuck r stands = (refl, λ u. refl)
 
 -- a step that marks a gap leads to the first record of a start
 pub gap-begins : (c : Collector) (a : ℕ) (p : Phase) (r : Taken) (y : Sample) → Step c a p r → r .handed ≡ LastSample y
-    → r .collector ≡ begun (c .settings)
+    → r .collector ≡ firstRecord (c .settings)
 gap-begins c a Stop r y stopped g = absurd (let z : _≡_ {A = ℕ} 0 1 = cc in omega arith)
 gap-begins c a Poll r y (poll-wide e) g = absurd (let z : _≡_ {A = ℕ} 0 1 = cc in omega arith)
 gap-begins c a Poll r y (poll-free e t) g = absurd (let z : _≡_ {A = ℕ} 0 1 = cc in omega arith)

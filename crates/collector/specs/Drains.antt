@@ -16,10 +16,10 @@ use Rattle.collector_phases.specs.declared.Phase.the-variants.{Drain}
 use Rattle.collector_steps.specs.declared.Handed.{Handed}
 use Rattle.collector_steps.specs.declared.Handed.the-variants.{OneSample}
 use Rattle.collector_steps.specs.declared.Taken.{Taken}
-use Rattle.collector_phases.specs.Phases.{number, phaseOf}
+use Rattle.collector_phases.specs.Phases.{phaseNumber, phaseOf}
 use Rattle.collector_answers.specs.Answers.{sampleAt}
 use Rattle.collector_phases.specs.Fit.{FitCollector}
-use Rattle.collector_records.specs.Records.{begun, draining, passed}
+use Rattle.collector_records.specs.Records.{firstRecord, draining, passed}
 use Rattle.collector_steps.specs.Reads.{reports, closes}
 use Rattle.collector_replies.specs.Reply.{replied}
 use Rattle.collector.specs.Handed.{samplesOf, gapMarked}
@@ -60,14 +60,14 @@ pub record Drained (c : Collector) (words : List ℕ) : Type 0 where
   -- a gap is marked with the last
   pub gap : map (λ (h : Handed). gapMarked h) (handing c words) ≡ gapAtEnd words
   -- and the collector starts again
-  pub again : ahead c words ≡ begun (c .settings)
+  pub again : ahead c words ≡ firstRecord (c .settings)
 
 drain-last : (c : Collector) (a : ℕ) (r : Taken) → c .left ≤ 1 → Step c a Drain r → r ≡ closes c a
 drain-last c a r h (drained e) = absurd (let g : 1 < c .left = leb-false _ _ e in omega arith)
 drain-last c a r h (closed e) = refl
 
 drain-more : (c : Collector) (a : ℕ) (r : Taken) → 1 < c .left → Step c a Drain r
-    → r ≡ reports (passed c (number Drain) (c .left - 1)) (OneSample (sampleAt (c .next) a))
+    → r ≡ reports (passed c (phaseNumber Drain) (c .left - 1)) (OneSample (sampleAt (c .next) a))
 drain-more c a r h (drained e) = refl
 drain-more c a r h (closed e) = absurd (let g : c .left ≤ 1 = leb-true _ _ e in omega arith)
 
@@ -82,7 +82,7 @@ drains c a [] w e h =
     record { samples = rw q; gap = rw q; again = ap (λ (r : Taken). r .collector) q }
 drains c a (b ∷ bs) w e h =
     let q = drain-more c a (replied c a) (omega arith) (in-drain c a w e) in
-    let d = passed c (number Drain) (c .left - 1) in
+    let d = passed c (phaseNumber Drain) (c .left - 1) in
     let f : FitCollector d = subst (λ (r : Taken). FitCollector (r .collector)) q (replied-fit c w a) in
     let t = drains d b bs f refl (omega arith) in
     record {

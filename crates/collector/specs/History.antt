@@ -13,7 +13,7 @@ use Rattle.collector_steps.specs.declared.Handed.the-variants.{LastSample}
 use Rattle.collector_steps.specs.declared.Taken.{Taken}
 use Rattle.collector_phases.specs.Phases.{phaseOf}
 use Rattle.collector_phases.specs.Fit.{FitSettings, FitCollector}
-use Rattle.collector_records.specs.Records.{begun, started}
+use Rattle.collector_records.specs.Records.{firstRecord, startOf}
 use Rattle.collector_phases.specs.Accesses.{accessOf}
 use Rattle.collector_replies.specs.Reply.{replied}
 use Rattle.collector.specs.Steps.{step, access-fit}
@@ -59,29 +59,30 @@ pollsSince (h and e) = countedOn (e .access) (e .taken .handed) (pollsSince h)
 -- ---- the theorems
 -- of a start with fit settings, after any run
 module _ (s : Settings) (f : FitSettings s) where
-  fit-after : (r : Brought) → FitCollector (afterAnswers (begun s) r)
+  fit-after : (r : Brought) → FitCollector (afterAnswers (firstRecord s) r)
   unfolding afterAnswers
   fit-after begin = begun-fit s f
-  fit-after (r ▸ a) = replied-fit (afterAnswers (begun s) r) (fit-after r) a
+  fit-after (r ▸ a) = replied-fit (afterAnswers (firstRecord s) r) (fit-after r) a
 
-  settings-after : (r : Brought) → afterAnswers (begun s) r .settings ≡ s
+  settings-after : (r : Brought) → afterAnswers (firstRecord s) r .settings ≡ s
   unfolding afterAnswers
   settings-after begin = refl
-  settings-after (r ▸ a) = step-holds _ a _ _ (step (afterAnswers (begun s) r) a (fit-after r)) .0 ∙ settings-after r
+  settings-after (r ▸ a) = step-holds _ a _ _ (step (afterAnswers (firstRecord s) r) a (fit-after r)) .0 ∙ settings-after r
 
   reported : (r : Brought) (a : ℕ)
-      → (underway (phaseOf (afterAnswers (begun s) r .phase)) ≡ true → afterAnswers (begun s) r .polls ≡ pollsSince (historyOf (begun s) r))
-      → replied (afterAnswers (begun s) r) a .polls ≡ pollsSince (historyOf (begun s) (r ▸ a))
+      → (underway (phaseOf (afterAnswers (firstRecord s) r .phase)) ≡ true → afterAnswers (firstRecord s) r .polls ≡ pollsSince (historyOf (firstRecord s) r))
+      → replied (afterAnswers (firstRecord s) r) a .polls ≡ pollsSince (historyOf (firstRecord s) (r ▸ a))
   unfolding pollsSince historyOf
   reported r a h =
-      let c = afterAnswers (begun s) r in
+      let c = afterAnswers (firstRecord s) r in
       let w = fit-after r in
-      rw (access-fit c w) (step-counts c a (phaseOf (c .phase)) (replied c a) (pollsSince (historyOf (begun s) r)) (w .phase) h (step c a w))
+      rw (access-fit c w) (step-counts c a (phaseOf (c .phase)) (replied c a) (pollsSince (historyOf (firstRecord s) r)) (w .phase) h (step c a w))
 
-  held : (r : Brought) → underway (phaseOf (afterAnswers (begun s) r .phase)) ≡ true → afterAnswers (begun s) r .polls ≡ pollsSince (historyOf (begun s) r)
+  held : (r : Brought) → underway (phaseOf (afterAnswers (firstRecord s) r .phase)) ≡ true
+      → afterAnswers (firstRecord s) r .polls ≡ pollsSince (historyOf (firstRecord s) r)
   unfolding afterAnswers pollsSince historyOf
   held begin u = refl
-  held (r ▸ a) u = step-holds _ a _ _ (step (afterAnswers (begun s) r) a (fit-after r)) .1 u ∙ reported r a (held r)
+  held (r ▸ a) u = step-holds _ a _ _ (step (afterAnswers (firstRecord s) r) a (fit-after r)) .1 u ∙ reported r a (held r)
 
 -- a run, and another one after it
 infixl 30 _then_
@@ -95,7 +96,7 @@ after-then c r begin = refl
 after-then c r (q ▸ a) = ap (λ (d : Collector). replied d a .collector) (after-then c r q)
 
 -- A collector that a start gave, after any run of answers
-module _ (s : Settings) (c : Collector) (h : started s ≡ Begun c) where
+module _ (s : Settings) (c : Collector) (h : startOf s ≡ Begun c) where
   -- it is fit, with the settings of its start
   pub always-fit : (r : Brought) → FitCollector (afterAnswers c r)
   always-fit r = let e = started-begun s c h in rw (e .0) (fit-after s (e .1) r)
@@ -121,7 +122,7 @@ module _ (s : Settings) (c : Collector) (h : started s ≡ Begun c) where
   gap-restarts r a y g =
       let d = afterAnswers c r in
       gap-begins d a (phaseOf (d .phase)) (replied d a) y (step d a (always-fit r)) g
-      ∙ ap (λ (t : Settings). begun t) (same-settings r) ∙ sym (started-begun s c h .0)
+      ∙ ap (λ (t : Settings). firstRecord t) (same-settings r) ∙ sym (started-begun s c h .0)
 
   pub counts-anew : (r : Brought) (a : ℕ) (y : Sample) → replied (afterAnswers c r) a .handed ≡ LastSample y
       → (q : Brought) (b : ℕ) → replied (afterAnswers c ((r ▸ a) then q)) b .polls ≡ pollsSince (historyOf c (q ▸ b))

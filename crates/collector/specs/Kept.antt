@@ -14,33 +14,33 @@ use Rattle.collector_phases.specs.declared.Phase.the-variants.{Stop, Poll, Rang
 use Rattle.collector_records.specs.declared.Started.the-variants.{Begun, NotBegun}
 use Rattle.collector_steps.specs.declared.Taken.{Taken}
 use Rattle.collector_settings.specs.Settings.{startRefusal}
-use Rattle.collector_phases.specs.Phases.{number, phaseOf}
+use Rattle.collector_phases.specs.Phases.{phaseNumber, phaseOf}
 use Rattle.collector_phases.specs.Fit.{FitSettings, FitIn, FitCollector}
 use Rattle.collector_replies.specs.Joined.{settings-of, settings-to}
-use Rattle.collector_records.specs.Records.{begun, started, entered, counted, draining, follows, following, passed}
+use Rattle.collector_records.specs.Records.{firstRecord, startOf, entered, pollCounted, draining, follows, following, passed}
 use Rattle.collector_replies.specs.Reply.{replied}
 use Rattle.collector.specs.Steps.{Step, step}
 use Rattle.collector.specs.Steps.{stopped, poll-wide, poll-free, poll-again, poll-last, ranged, cleared, lowered, raised, went}
 use Rattle.collector.specs.Steps.{look-wide, look-contradicts, look-empty, look-full, look-few, taken, drained, closed, stands}
 
 -- ---- a start
-pub begun-fit : (s : Settings) → FitSettings s → FitCollector (begun s)
+pub begun-fit : (s : Settings) → FitSettings s → FitCollector (firstRecord s)
 unfolding phaseOf
 begun-fit s f = record { settings = f; from-low = omega arith; to-high = f .order; polls = omega arith; phase = refl }
 
 -- a start that is taken is the first record of fit settings
-pub started-begun : (s : Settings) (c : Collector) → started s ≡ Begun c → (c ≡ begun s) × FitSettings s
-unfolding started
+pub started-begun : (s : Settings) (c : Collector) → startOf s ≡ Begun c → (c ≡ firstRecord s) × FitSettings s
+unfolding startOf
 started-begun s c h = from (eqb (startRefusal s) 0) refl h
   where
-    from : (b : Bool) → eqb (startRefusal s) 0 ≡ b → (if b then Begun (begun s) else NotBegun (startRefusal s)) ≡ Begun c
-        → (c ≡ begun s) × FitSettings s
+    from : (b : Bool) → eqb (startRefusal s) 0 ≡ b → (if b then Begun (firstRecord s) else NotBegun (startRefusal s)) ≡ Begun c
+        → (c ≡ firstRecord s) × FitSettings s
     from true e g = (cc, settings-of s (eqb-true _ _ e))
     from false e g = absurd (let z : _≡_ {A = ℕ} 0 1 = cc in omega arith)
 
 -- fit settings are taken
-pub started-fit : (s : Settings) → FitSettings s → started s ≡ Begun (begun s)
-unfolding started
+pub started-fit : (s : Settings) → FitSettings s → startOf s ≡ Begun (firstRecord s)
+unfolding startOf
 started-fit s f = rw (settings-to s f)
 
 -- ---- channels of a range
@@ -63,7 +63,7 @@ module _ (c : Collector) (w : FitCollector c) where
   entered-fit : (n : ℕ) → FitIn (phaseOf n) (entered c n) → FitCollector (entered c n)
   entered-fit n f = record { settings = w .settings; from-low = w .from-low; to-high = w .to-high; polls = w .polls; phase = f }
 
-  counted-fit : (n : ℕ) → c .polls < c .settings .limit → FitIn (phaseOf n) (counted c n) → FitCollector (counted c n)
+  counted-fit : (n : ℕ) → c .polls < c .settings .limit → FitIn (phaseOf n) (pollCounted c n) → FitCollector (pollCounted c n)
   counted-fit n h f = record { settings = w .settings; from-low = w .from-low; to-high = w .to-high; polls = omega arith; phase = f }
 
   pub draining-fit : FitCollector (draining c)
@@ -85,24 +85,24 @@ module _ (c : Collector) (w : FitCollector c) where
   kept : (a : ℕ) (p : Phase) (r : Taken) → FitIn p c → Step c a p r → FitCollector (r .collector)
   unfolding phaseOf
   kept a Stop r f stopped =
-      entered-fit (number Poll) (let k : 1 ≤ c .settings .limit = w .settings .some-polls in let z : c .polls ≡ 0 = f in omega arith)
+      entered-fit (phaseNumber Poll) (let k : 1 ≤ c .settings .limit = w .settings .some-polls in let z : c .polls ≡ 0 = f in omega arith)
   kept a Poll r f (poll-wide e) = w
-  kept a Poll r f (poll-free e t) = counted-fit (number Range) f tt
-  kept a Poll r f (poll-again e t l) = counted-fit (number Poll) f (let g : c .polls + 1 < c .settings .limit = leb-false _ _ l in g)
-  kept a Poll r f (poll-last e t l) = counted-fit (number Stuck) f tt
-  kept a Range r f ranged = entered-fit (number Clear) tt
-  kept a Clear r f cleared = entered-fit (number Low) tt
-  kept a Low r f lowered = entered-fit (number High) tt
-  kept a High r f raised = entered-fit (number Go) tt
-  kept a Go r f went = entered-fit (number Look) tt
+  kept a Poll r f (poll-free e t) = counted-fit (phaseNumber Range) f tt
+  kept a Poll r f (poll-again e t l) = counted-fit (phaseNumber Poll) f (let g : c .polls + 1 < c .settings .limit = leb-false _ _ l in g)
+  kept a Poll r f (poll-last e t l) = counted-fit (phaseNumber Stuck) f tt
+  kept a Range r f ranged = entered-fit (phaseNumber Clear) tt
+  kept a Clear r f cleared = entered-fit (phaseNumber Low) tt
+  kept a Low r f lowered = entered-fit (phaseNumber High) tt
+  kept a High r f raised = entered-fit (phaseNumber Go) tt
+  kept a Go r f went = entered-fit (phaseNumber Look) tt
   kept a Look r f (look-wide e) = w
   kept a Look r f (look-contradicts e d) = w
   kept a Look r f (look-empty e d t) = w
   kept a Look r f (look-full e d t l) = draining-fit
-  kept a Look r f (look-few e d t l) = entered-fit (number Take) tt
-  kept a Take r f taken = passed-fit (number Look) (c .left) tt
+  kept a Look r f (look-few e d t l) = entered-fit (phaseNumber Take) tt
+  kept a Take r f taken = passed-fit (phaseNumber Look) (c .left) tt
   kept a Drain r f (drained e) =
-      passed-fit (number Drain) (c .left - 1)
+      passed-fit (phaseNumber Drain) (c .left - 1)
       (let g : 1 < c .left = leb-false _ _ e in let h : c .left ≤ 512 = f .1 in (omega arith, omega arith))
   kept a Drain r f (closed e) = begun-fit (c .settings) (w .settings)
   kept a Stuck r f stands = w

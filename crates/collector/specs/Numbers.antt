@@ -19,7 +19,7 @@ use Rattle.collector_phases.specs.Phases.{phaseOf, accessIn, isNone}
 use Rattle.collector_phases.specs.Fit.{FitIn, fit}
 use Rattle.collector_phases.specs.Accesses.{accessOf}
 use Rattle.collector_records.specs.declared.Started.the-variants.{Begun, NotBegun}
-use Rattle.collector_records.specs.Records.{begun, started}
+use Rattle.collector_records.specs.Records.{firstRecord, startOf}
 use Rattle.collector_refusals.specs.Refusals.{answerChecks}
 use Rattle.collector_steps.specs.declared.Taken.{Taken}
 use Rattle.collector_replies.specs.Joined.{fit-of}
@@ -30,12 +30,12 @@ use Rattle.collector.specs.Steps.{stopped, poll-wide, poll-free, poll-ag
 use Rattle.collector.specs.Steps.{look-wide, look-contradicts, look-empty, look-full, look-few, taken, drained, closed, stands}
 
 -- ---- a start: 14, 11, 12, 13
-pub start-number : (s : Settings) → startNumber (started s) ≡ startRefusal s
-unfolding started
+pub start-number : (s : Settings) → startNumber (startOf s) ≡ startRefusal s
+unfolding startOf
 start-number s = by (eqb (startRefusal s) 0) refl
   where
     by : (t : Bool) → eqb (startRefusal s) 0 ≡ t
-        → startNumber (if t then Begun (begun s) else NotBegun (startRefusal s)) ≡ startRefusal s
+        → startNumber (if t then Begun (firstRecord s) else NotBegun (startRefusal s)) ≡ startRefusal s
     by true h = sym (eqb-true _ _ h)
     by false h = refl
 

@@ -12,41 +12,41 @@ use Rattle.collector_phases.specs.declared.Phase.the-variants.{Stop, Poll, Rang
 use Rattle.collector_phases.specs.declared.Access.the-variants.{NoAccess}
 use Rattle.collector_steps.specs.declared.Handed.the-variants.{Nothing, StartEnd, OneSample, Refused}
 use Rattle.collector_steps.specs.declared.Taken.{Taken}
-use Rattle.collector_phases.specs.Phases.{number, phaseOf, accessIn, isNone}
+use Rattle.collector_phases.specs.Phases.{phaseNumber, phaseOf, accessIn, isNone}
 use Rattle.collector_answers.specs.Answers.{wide, STS, EF, contradicts, isFull, sampleAt}
 use Rattle.collector_phases.specs.Fit.{FitIn, FitCollector, fit}
 use Rattle.collector_replies.specs.Joined.{fit-to}
-use Rattle.collector_records.specs.Records.{entered, counted, draining, passed}
+use Rattle.collector_records.specs.Records.{entered, pollCounted, draining, passed}
 use Rattle.collector_steps.specs.Reads.{reports, closes}
 use Rattle.collector_replies.specs.Reply.{decided, replied}
-use Rattle.collector_refusals.specs.Refusals.{lastPoll, readChecks}
+use Rattle.collector_refusals.specs.Refusals.{lastPoll, readAnswerChecks}
 use Rattle.collector_phases.specs.Accesses.{accessOf}
 
 pub data Step (c : Collector) (a : ℕ) : Phase → Taken → Type 0 where
-  stopped : Step c a Stop (reports (entered c (number Poll)) Nothing)
+  stopped : Step c a Stop (reports (entered c (phaseNumber Poll)) Nothing)
   poll-wide : wide a ≡ true → Step c a Poll (reports c (Refused 17))
-  poll-free : wide a ≡ false → STS a ≡ false → Step c a Poll (reports (counted c (number Range)) Nothing)
-  poll-again : wide a ≡ false → STS a ≡ true → lastPoll c ≡ false → Step c a Poll (reports (counted c (number Poll)) Nothing)
-  poll-last : wide a ≡ false → STS a ≡ true → lastPoll c ≡ true → Step c a Poll (reports (counted c (number Stuck)) (Refused 15))
-  ranged : Step c a Range (reports (entered c (number Clear)) Nothing)
-  cleared : Step c a Clear (reports (entered c (number Low)) Nothing)
-  lowered : Step c a Low (reports (entered c (number High)) Nothing)
-  raised : Step c a High (reports (entered c (number Go)) Nothing)
-  went : Step c a Go (reports (entered c (number Look)) StartEnd)
+  poll-free : wide a ≡ false → STS a ≡ false → Step c a Poll (reports (pollCounted c (phaseNumber Range)) Nothing)
+  poll-again : wide a ≡ false → STS a ≡ true → lastPoll c ≡ false → Step c a Poll (reports (pollCounted c (phaseNumber Poll)) Nothing)
+  poll-last : wide a ≡ false → STS a ≡ true → lastPoll c ≡ true → Step c a Poll (reports (pollCounted c (phaseNumber Stuck)) (Refused 15))
+  ranged : Step c a Range (reports (entered c (phaseNumber Clear)) Nothing)
+  cleared : Step c a Clear (reports (entered c (phaseNumber Low)) Nothing)
+  lowered : Step c a Low (reports (entered c (phaseNumber High)) Nothing)
+  raised : Step c a High (reports (entered c (phaseNumber Go)) Nothing)
+  went : Step c a Go (reports (entered c (phaseNumber Look)) StartEnd)
   look-wide : wide a ≡ true → Step c a Look (reports c (Refused 17))
   look-contradicts : wide a ≡ false → contradicts a ≡ true → Step c a Look (reports c (Refused 16))
   look-empty : wide a ≡ false → contradicts a ≡ false → EF a ≡ true → Step c a Look (reports c Nothing)
   look-full : wide a ≡ false → contradicts a ≡ false → EF a ≡ false → isFull a ≡ true → Step c a Look (reports (draining c) Nothing)
   look-few : wide a ≡ false → contradicts a ≡ false → EF a ≡ false → isFull a ≡ false
-      → Step c a Look (reports (entered c (number Take)) Nothing)
-  taken : Step c a Take (reports (passed c (number Look) (c .left)) (OneSample (sampleAt (c .next) a)))
-  drained : leb (c .left) 1 ≡ false → Step c a Drain (reports (passed c (number Drain) (c .left - 1)) (OneSample (sampleAt (c .next) a)))
+      → Step c a Look (reports (entered c (phaseNumber Take)) Nothing)
+  taken : Step c a Take (reports (passed c (phaseNumber Look) (c .left)) (OneSample (sampleAt (c .next) a)))
+  drained : leb (c .left) 1 ≡ false → Step c a Drain (reports (passed c (phaseNumber Drain) (c .left - 1)) (OneSample (sampleAt (c .next) a)))
   closed : leb (c .left) 1 ≡ true → Step c a Drain (closes c a)
   stands : Step c a Stuck (reports c (Refused 15))
 
 -- the reply of a fit collector in phase p
 abbrev pub fitReply : Phase → Collector → ℕ → Taken
-fitReply p c a = decided (refusal (isNone (accessIn p (c .settings)) refuses 15 ∷ readChecks (accessIn p (c .settings)) c a)) p c a
+fitReply p c a = decided (refusal (isNone (accessIn p (c .settings)) refuses 15 ∷ readAnswerChecks (accessIn p (c .settings)) c a)) p c a
 
 module _ (c : Collector) (a : ℕ) where
   poll-step : (w t l : Bool) → wide a ≡ w → STS a ≡ t → lastPoll c ≡ l → Step c a Poll (fitReply Poll c a)

@@ -16,7 +16,7 @@ use Rattle.collector_phases.specs.declared.Access.{Access}
 use Rattle.collector_phases.specs.declared.Access.the-variants.{WriteByte, ReadByte, ReadWord, NoAccess}
 use Rattle.collector_steps.specs.declared.Taken.{Taken}
 use Rattle.collector_settings.specs.Settings.{clockByte}
-use Rattle.collector_phases.specs.Phases.{number, phaseOf, accessIn}
+use Rattle.collector_phases.specs.Phases.{phaseNumber, phaseOf, accessIn}
 use Rattle.collector_answers.specs.Answers.{wide, STS, EF, contradicts, isFull}
 use Rattle.collector_phases.specs.Fit.{FitCollector}
 use Rattle.collector_refusals.specs.Refusals.{lastPoll}
@@ -112,7 +112,7 @@ kindNumber more = 9
 kindNumber last = 10
 
 abbrev is : Row → Phase → Kind → Bool
-is r p k = eqb (number (r .phase)) (number p) && eqb (kindNumber (r .answer)) (kindNumber k)
+is r p k = eqb (phaseNumber (r .phase)) (phaseNumber p) && eqb (kindNumber (r .answer)) (kindNumber k)
 
 -- what the rows give as the next access: that of the first row for the phase and the kind of answer
 abbrev pub given : List Row → Phase → Kind → Access

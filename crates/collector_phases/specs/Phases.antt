@@ -12,19 +12,19 @@ use Rattle.collector_phases.specs.declared.Access.the-variants.{WriteByt
 use Rattle.collector_settings.specs.Settings.{clockByte}
 
 -- the number that stands for a phase in the record
-abbrev pub number : Phase → ℕ
-number Stop = 0
-number Poll = 1
-number Range = 2
-number Clear = 3
-number Low = 4
-number High = 5
-number Go = 6
-number Look = 7
-number Take = 8
-number Drain = 9
-number Stuck = 10
-number Unknown = 11
+abbrev pub phaseNumber : Phase → ℕ
+phaseNumber Stop = 0
+phaseNumber Poll = 1
+phaseNumber Range = 2
+phaseNumber Clear = 3
+phaseNumber Low = 4
+phaseNumber High = 5
+phaseNumber Go = 6
+phaseNumber Look = 7
+phaseNumber Take = 8
+phaseNumber Drain = 9
+phaseNumber Stuck = 10
+phaseNumber Unknown = 11
 
 -- the phase that a number of the record stands for; above 10 there is none
 unfoldable pub phaseOf : ℕ → Phase

@@ -4,7 +4,7 @@ use collector_phases::Collector;
 use collector_settings::Settings;
 ghost use mathlib.Core.Path.{_≡_};
 ghost use Prim.Native.Nat.{_<_};
-ghost use Rattle.collector_records.specs.Records.{begun, started, entered, counted, draining, following, passed};
+ghost use Rattle.collector_records.specs.Records.{firstRecord, startOf, entered, pollCounted, draining, following, passed};
 
 // A start: the collector, or a refusal.
 pub enum Started {
@@ -14,7 +14,7 @@ pub enum Started {
 
 // The first record of a start.
 pub fn begin(s: Settings) -> Collector
-    ensures { λ r. ⌜ r ≡ begun s ⌝ }
+    ensures { λ r. ⌜ r ≡ firstRecord s ⌝ }
 {
     Collector {
         settings: s,
@@ -27,7 +27,7 @@ pub fn begin(s: Settings) -> Collector
 
 // A collector for these settings, or the refusal 14, 11, 12 or 13.
 pub fn start(settings: Settings) -> Started
-    ensures { λ r. ⌜ r ≡ started settings ⌝ }
+    ensures { λ r. ⌜ r ≡ startOf settings ⌝ }
 {
     let n = collector_settings::start_refusal(settings);
     if n == 0 {
@@ -49,7 +49,7 @@ pub fn enter(c: Collector, phase: u8) -> Collector
 // The record in another phase, with a poll counted.
 pub fn count(c: Collector, phase: u8) -> Collector
     requires { ⌜ c .polls < 65535 ⌝ }
-    ensures { λ r. ⌜ r ≡ counted c phase ⌝ }
+    ensures { λ r. ⌜ r ≡ pollCounted c phase ⌝ }
 {
     let mut d = c;
     d.phase = phase;

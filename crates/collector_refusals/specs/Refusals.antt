@@ -14,12 +14,12 @@ use Rattle.collector_answers.specs.Answers.{wide, STS, contradicts}
 abbrev pub lastPoll : Collector → Bool
 lastPoll c = leb (c .settings .limit) (c .polls + 1)
 
-abbrev pub readChecks : Access → Collector → ℕ → List Check
-readChecks x c a =
+abbrev pub readAnswerChecks : Access → Collector → ℕ → List Check
+readAnswerChecks x c a =
     (isByteRead x && wide a) refuses 17
     ∷ (reads 8 x && STS a && lastPoll c) refuses 15
     ∷ (reads 7 x && contradicts a) refuses 16
     ∷ []
 
 abbrev pub answerChecks : Access → Collector → ℕ → List Check
-answerChecks x c a = not (fit c) refuses 1 ∷ isNone x refuses 15 ∷ readChecks x c a
+answerChecks x c a = not (fit c) refuses 1 ∷ isNone x refuses 15 ∷ readAnswerChecks x c a

@@ -6,7 +6,7 @@ ghost use mathlib.Core.List.{_∷_};
 ghost use Rattle.base.specs.Checks.{_refuses_, refusal};
 ghost use Rattle.collector_phases.specs.declared.Access.the-variants.{ReadByte};
 ghost use Rattle.collector_phases.specs.Phases.{isNone, reads};
-ghost use Rattle.collector_refusals.specs.Refusals.{lastPoll, readChecks};
+ghost use Rattle.collector_refusals.specs.Refusals.{lastPoll, readAnswerChecks};
 
 // Whether this poll is the last that the limit allows.
 fn is_last_poll(c: Collector) -> bool
@@ -17,7 +17,7 @@ fn is_last_poll(c: Collector) -> bool
 
 // The number by which the answer to a byte read is refused, or 0.
 fn byte_refusal(offset: u8, c: Collector, a: u16) -> u8
-    ensures { λ r. ⌜ r ≡ refusal (readChecks (ReadByte offset) c a) ⌝ }
+    ensures { λ r. ⌜ r ≡ refusal (readAnswerChecks (ReadByte offset) c a) ⌝ }
 {
     if collector_answers::is_wide(a) {
         17
@@ -32,7 +32,7 @@ fn byte_refusal(offset: u8, c: Collector, a: u16) -> u8
 
 // The number by which the answer to an access of a fit record is refused, or 0.
 pub fn refusal_of(x: Access, c: Collector, a: u16) -> u8
-    ensures { λ r. ⌜ r ≡ refusal (isNone x refuses 15 ∷ readChecks x c a) ⌝ }
+    ensures { λ r. ⌜ r ≡ refusal (isNone x refuses 15 ∷ readAnswerChecks x c a) ⌝ }
 {
     match x {
         Access::WriteByte {

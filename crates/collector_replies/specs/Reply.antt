@@ -12,8 +12,8 @@ use Rattle.collector_phases.specs.declared.Access.the-variants.{WriteByte, Read
 use Rattle.collector_phases.specs.Accesses.{accessOf}
 use Rattle.collector_answers.specs.declared.BusAnswer.{BusAnswer}
 use Rattle.collector_answers.specs.declared.BusAnswer.the-variants as bus
-use Rattle.collector_phases.specs.Phases.{number, phaseOf, accessIn, reads}
-use Rattle.collector_records.specs.Records.{entered, counted}
+use Rattle.collector_phases.specs.Phases.{phaseNumber, phaseOf, accessIn, reads}
+use Rattle.collector_records.specs.Records.{entered, pollCounted}
 use Rattle.collector_refusals.specs.Refusals.{answerChecks}
 use Rattle.collector_steps.specs.declared.Handed.the-variants.{Nothing, StartEnd, Refused}
 use Rattle.collector_steps.specs.declared.Taken.{Taken}
@@ -21,13 +21,13 @@ use Rattle.collector_steps.specs.Reads.{reports, polled, looked, took, drained}
 
 -- an answer that is not refused: of a poll, STS; of a look, the flags; of a word read, the sample. That of a write isn't looked at.
 abbrev pub answered : Phase → Collector → ℕ → Taken
-answered Stop c a = reports (entered c (number Poll)) Nothing
+answered Stop c a = reports (entered c (phaseNumber Poll)) Nothing
 answered Poll c a = reports (polled c a) Nothing
-answered Range c a = reports (entered c (number Clear)) Nothing
-answered Clear c a = reports (entered c (number Low)) Nothing
-answered Low c a = reports (entered c (number High)) Nothing
-answered High c a = reports (entered c (number Go)) Nothing
-answered Go c a = reports (entered c (number Look)) StartEnd
+answered Range c a = reports (entered c (phaseNumber Clear)) Nothing
+answered Clear c a = reports (entered c (phaseNumber Low)) Nothing
+answered Low c a = reports (entered c (phaseNumber High)) Nothing
+answered High c a = reports (entered c (phaseNumber Go)) Nothing
+answered Go c a = reports (entered c (phaseNumber Look)) StartEnd
 answered Look c a = reports (looked c a) Nothing
 answered Take c a = took c a
 answered Drain c a = drained c a
@@ -36,7 +36,7 @@ answered Unknown c a = reports c Nothing
 
 -- what stays after a refusal: at the last poll the collector is stuck, and that poll counts; else it is unchanged
 abbrev pub staying : ℕ → Access → Collector → Collector
-staying n x c = if eqb n 15 && reads 8 x then counted c (number Stuck) else c
+staying n x c = if eqb n 15 && reads 8 x then pollCounted c (phaseNumber Stuck) else c
 
 abbrev pub decided : ℕ → Phase → Collector → ℕ → Taken
 decided n p c a =

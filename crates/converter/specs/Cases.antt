@@ -5,7 +5,7 @@ use Prim.Native.Nat.{ℕ, zero, suc}
 use Rattle.converter.specs.declared.channels.Converter.{Converter}
 use Rattle.converter.specs.Channels.{nextChannel, softwareTriggered, ended}
 use Rattle.converter.specs.Registers.{writtenLow, writtenHigh, freshConverter}
-use Rattle.converter.specs.Order.{singles, upFrom, rangeOf}
+use Rattle.converter.specs.Order.{singles, upFrom, rangeChannels}
 
 -- a fresh converter with this range written
 abbrev pub ranged : ℕ → ℕ → Converter
@@ -27,6 +27,6 @@ unfolding singles nextChannel
 case-4 = refl
 
 -- the range 30 to 1 in the order of a scan
-pub range-30-1 : rangeOf 30 1 ≡ 30 ∷ 31 ∷ 0 ∷ 1 ∷ []
+pub range-30-1 : rangeChannels 30 1 ≡ 30 ∷ 31 ∷ 0 ∷ 1 ∷ []
 unfolding upFrom
 range-30-1 = refl

@@ -23,8 +23,8 @@ abbrev pub ups : ℕ → ℕ → ℕ
 ups low high = (high + 32 - low) % 32
 
 -- the channels of the range low to high, in the order of a scan
-abbrev pub rangeOf : ℕ → ℕ → List ℕ
-rangeOf low high = upFrom low (suc (ups low high))
+abbrev pub rangeChannels : ℕ → ℕ → List ℕ
+rangeChannels low high = upFrom low (suc (ups low high))
 
 -- so many rounds of a list
 unfoldable pub rounds : ℕ → List ℕ → List ℕ
@@ -105,19 +105,19 @@ total-enough w zero = omega arith
 total-enough w (suc k) = omega (arith, total-enough w k, more-is w (total (suc w) k))
 
 whole-rounds : (low high n : ℕ) → low ≤ 31 → high ≤ 31
-    → selections low high low (total (suc (ups low high)) n) ≡ rounds n (rangeOf low high)
+    → selections low high low (total (suc (ups low high)) n) ≡ rounds n (rangeChannels low high)
 unfolding selections rounds total
 whole-rounds low high zero p q = refl
 whole-rounds low high (suc n) p q =
     to-high low high (ups low high) low (total (suc (ups low high)) n) p q refl
-    ∙ ap (λ (l : List ℕ). rangeOf low high ++ l) (whole-rounds low high n p q)
+    ∙ ap (λ (l : List ℕ). rangeChannels low high ++ l) (whole-rounds low high n p q)
 
 shorter : (low high s k j : ℕ) → take k (selections low high s (more k j)) ≡ selections low high s k
 unfolding selections more
 shorter low high s zero j = refl
 shorter low high s (suc k) j = ap (λ (l : List ℕ). s ∷ l) (shorter low high (nextChannel low high s) k j)
 
-selected-in-order : (low high k : ℕ) → low ≤ 31 → high ≤ 31 → selections low high low k ≡ take k (rounds k (rangeOf low high))
+selected-in-order : (low high k : ℕ) → low ≤ 31 → high ≤ 31 → selections low high low k ≡ take k (rounds k (rangeChannels low high))
 selected-in-order low high k p q =
     let t : ℕ = total (suc (ups low high)) k in
     let e : more k (t - k) ≡ t = omega (arith, total-enough (ups low high) k, more-is k (t - k)) in
@@ -128,7 +128,7 @@ selected-in-order low high k p q =
 -- ---- the theorems
 -- with low selected, as after a write of 2 or 3, any number of starts convert the range's channels in order, round after round
 pub in-order : (c : Converter) (k : ℕ) → WorkingConverter c → c .selected ≡ c .low
-    → channels k c ≡ take k (rounds k (rangeOf (c .low) (c .high)))
+    → channels k c ≡ take k (rounds k (rangeChannels (c .low) (c .high)))
 in-order c k w e =
     channels-are k c
     ∙ ap (λ (s : ℕ). selections (c .low) (c .high) s k) e
@@ -149,5 +149,5 @@ unfolding upFrom
 ends-at high zero s p q e = omega arith
 ends-at high (suc n) s p q e = let t = nearer high s n p q e in ends-at high n (up s) (t .0) q (t .1)
 
-pub range-ends : (low high : ℕ) → low ≤ 31 → high ≤ 31 → getD (rangeOf low high) (ups low high) 0 ≡ high
+pub range-ends : (low high : ℕ) → low ≤ 31 → high ≤ 31 → getD (rangeChannels low high) (ups low high) 0 ≡ high
 range-ends low high p q = ends-at high (ups low high) low p q refl

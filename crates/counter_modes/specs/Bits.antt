@@ -12,7 +12,7 @@ use Rattle.counter_modes.specs.Control.{command, formatOf, setupBy, setu
 use Rattle.counter_modes.specs.declared.Mode.{Mode}
 use Rattle.counter_modes.specs.declared.Mode.the-variants.{TerminalCount, RateGenerator}
 use Rattle.counter_modes.specs.declared.Format.{Format}
-use Rattle.counter_modes.specs.declared.Command.the-variants.{LatchCount, Program, NotModelled}
+use Rattle.counter_modes.specs.declared.ControlCommand.the-variants.{LatchCount, Program, NotModelled}
 use Rattle.counter_modes.specs.declared.Setup.the-variants.{Programmed}
 
 -- the mode, where bit 2 is set and where it is clear

@@ -1,5 +1,5 @@
 // The control word: specs/Control.antt.
-use super::Command;
+use super::ControlCommand;
 use super::Format;
 use super::Mode;
 use super::Setup;
@@ -18,26 +18,26 @@ fn format_of(rw: u8) -> Format
     }
 }
 
-fn choose_mode(f: Format, m: u8) -> Command
+fn choose_mode(f: Format, m: u8) -> ControlCommand
     ensures { λ r. ⌜ r ≡ modeChosen f m ⌝ }
 {
     if m == 0 {
-        Command::Program(f, Mode::TerminalCount)
+        ControlCommand::Program(f, Mode::TerminalCount)
     } else if m % 4 == 2 {
-        Command::Program(f, Mode::RateGenerator)
+        ControlCommand::Program(f, Mode::RateGenerator)
     } else {
-        Command::NotModelled
+        ControlCommand::NotModelled
     }
 }
 
 // What a control word asks for, SC apart.
-pub fn command_of(word: u8) -> Command
+pub fn command_of(word: u8) -> ControlCommand
     ensures { λ r. ⌜ r ≡ command word ⌝ }
 {
     if word / 16 % 4 == 0 {
-        Command::LatchCount
+        ControlCommand::LatchCount
     } else if word / 1 % 2 == 1 {
-        Command::NotModelled
+        ControlCommand::NotModelled
     } else {
         choose_mode(format_of(word / 16 % 4), word / 2 % 8)
     }
@@ -48,9 +48,9 @@ pub fn setup_of(control: u8) -> Setup
     ensures { λ r. ⌜ r ≡ setupOf control ⌝ }
 {
     match command_of(control) {
-        Command::LatchCount => Setup::Unprogrammed,
-        Command::Program(f, m) => Setup::Programmed(f, m),
-        Command::NotModelled => Setup::Unprogrammed,
+        ControlCommand::LatchCount => Setup::Unprogrammed,
+        ControlCommand::Program(f, m) => Setup::Programmed(f, m),
+        ControlCommand::NotModelled => Setup::Unprogrammed,
     }
 }
 
@@ -59,8 +59,8 @@ pub fn refuses_word(word: u8) -> bool
     ensures { λ r. ⌜ r ≡ wordRefused word ⌝ }
 {
     match command_of(word) {
-        Command::LatchCount => false,
-        Command::Program(_, _) => false,
-        Command::NotModelled => true,
+        ControlCommand::LatchCount => false,
+        ControlCommand::Program(_, _) => false,
+        ControlCommand::NotModelled => true,
     }
 }

@@ -15,7 +15,7 @@ pub enum Format {
 }
 
 // What a control word asks of its counter.
-pub enum Command {
+pub enum ControlCommand {
     LatchCount,
     Program(Format, Mode),
     NotModelled,

@@ -10,8 +10,8 @@ use Rattle.counter_modes.specs.Control.{command, setupOf}
 use Rattle.counter_element.specs.Element.{firstCount, pieceTaken, gateSeen, pulseTaken}
 use Rattle.counter_bytes.specs.Bytes.{noBytes, pieceOf, bytesAfter, shown, byteShown, bytesRead, latchTaken}
 use Rattle.counter_modes.specs.declared.Mode.{Mode}
-use Rattle.counter_modes.specs.declared.Command.{Command}
-use Rattle.counter_modes.specs.declared.Command.the-variants.{LatchCount, Program, NotModelled}
+use Rattle.counter_modes.specs.declared.ControlCommand.{ControlCommand}
+use Rattle.counter_modes.specs.declared.ControlCommand.the-variants.{LatchCount, Program, NotModelled}
 use Rattle.counter_modes.specs.declared.Setup.{Setup}
 use Rattle.counter_modes.specs.declared.Setup.the-variants.{Unprogrammed, Programmed}
 use Rattle.counter_bytes.specs.declared.Piece.{Piece}
@@ -42,7 +42,7 @@ latchedAs (Programmed f m) c = record {
   bus = latchTaken (c .bus) (c .count .element);
 }
 
-abbrev pub commandedBy : Command → Counter → ℕ → Counter
+abbrev pub commandedBy : ControlCommand → Counter → ℕ → Counter
 commandedBy LatchCount c w = latchedAs (setupOf (c .control)) c
 commandedBy (Program f m) c w = programmed w m
 commandedBy NotModelled c w = c

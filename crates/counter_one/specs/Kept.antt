@@ -20,8 +20,8 @@ use Rattle.counter_one.specs.Pulsed.{register-taken}
 use Rattle.counter_one.specs.Working.{Flags, Facts, WorkingCounter}
 use Rattle.counter_modes.specs.declared.Mode.{Mode}
 use Rattle.counter_modes.specs.declared.Format.{Format}
-use Rattle.counter_modes.specs.declared.Command.{Command}
-use Rattle.counter_modes.specs.declared.Command.the-variants.{LatchCount, Program, NotModelled}
+use Rattle.counter_modes.specs.declared.ControlCommand.{ControlCommand}
+use Rattle.counter_modes.specs.declared.ControlCommand.the-variants.{LatchCount, Program, NotModelled}
 use Rattle.counter_modes.specs.declared.Setup.{Setup}
 use Rattle.counter_modes.specs.declared.Setup.the-variants.{Programmed}
 use Rattle.counter_bytes.specs.declared.Piece.{Piece}
@@ -77,7 +77,7 @@ pub commanded-works : (c : Counter) (w : ℕ) → WorkingCounter c → WorkingCo
 unfolding commanded
 commanded-works c w k = go (command w) refl
   where
-    go : (o : Command) → command w ≡ o → WorkingCounter (commandedBy o c w)
+    go : (o : ControlCommand) → command w ≡ o → WorkingCounter (commandedBy o c w)
     go LatchCount e = latched-works c k
     go (Program f m) e = programmed-works w f m e
     go NotModelled e = k

@@ -1,4 +1,4 @@
--- A isWorkingCounter board's counter. The specification, "What is delivered": "Every register, channel, port, counter and divider is within its
+-- A working board's counter. The specification, "What is delivered": "Every register, channel, port, counter and divider is within its
 -- width or range ...; no mode 2 counter has 1 to load, and an unprogrammed counter's OUT is high."
 use Prim.Native.Nat.{ℕ, _<_, _≤_}
 use mathlib.Core.Path.{_≡_, refl, sym}

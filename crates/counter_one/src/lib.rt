@@ -2,7 +2,7 @@
 // value, total over any record, and its contract is a definition of specs/Counter.antt.
 use counter_bytes::Bus;
 use counter_element::Count;
-use counter_modes::Command;
+use counter_modes::ControlCommand;
 use counter_modes::Mode;
 use counter_modes::Setup;
 use counter_modes::control;
@@ -79,9 +79,9 @@ pub fn write_word(c: Counter, word: u8) -> Counter
     ensures { λ r. ⌜ r ≡ commanded c word ⌝ }
 {
     match control::command_of(word) {
-        Command::LatchCount => latch(c),
-        Command::Program(_, m) => program(word, m),
-        Command::NotModelled => c,
+        ControlCommand::LatchCount => latch(c),
+        ControlCommand::Program(_, m) => program(word, m),
+        ControlCommand::NotModelled => c,
     }
 }
 

@@ -8,7 +8,7 @@ use mathlib.Core.List.{[], _∷_}
 use lib.Dec.{eqb}
 use Rattle.base.specs.Flags.{on}
 use Rattle.counter_modes.specs.Control.{command, setupOf}
-use Rattle.counter_modes.specs.declared.Command.the-variants.{Program}
+use Rattle.counter_modes.specs.declared.ControlCommand.the-variants.{Program}
 use Rattle.counter_modes.specs.declared.Mode.the-variants.{RateGenerator}
 use Rattle.counter_modes.specs.declared.Format.{Format}
 use Rattle.counter_modes.specs.declared.Setup.the-variants.{Programmed}

@@ -10,7 +10,7 @@ use lib.Dec.{leb, ltb}
 use Rattle.base.specs.Flags.{on}
 use Rattle.base.specs.Choice.{if_then_else_}
 use Rattle.counter_modes.specs.Control.{command, setupOf}
-use Rattle.counter_modes.specs.declared.Command.the-variants.{Program}
+use Rattle.counter_modes.specs.declared.ControlCommand.the-variants.{Program}
 use Rattle.counter_modes.specs.declared.Mode.the-variants.{TerminalCount}
 use Rattle.counter_modes.specs.declared.Format.{Format}
 use Rattle.counter_modes.specs.declared.Setup.the-variants.{Programmed}

@@ -9,7 +9,7 @@ use lib.Dec.{eqb, leb, ltb, leb·suc-suc}
 use Rattle.base.specs.Flags.{on}
 use Rattle.base.specs.Choice.{if_then_else_}
 use Rattle.counter_modes.specs.Control.{command}
-use Rattle.counter_modes.specs.declared.Command.the-variants.{Program}
+use Rattle.counter_modes.specs.declared.ControlCommand.the-variants.{Program}
 use Rattle.counter_modes.specs.declared.Mode.{Mode}
 use Rattle.counter_modes.specs.declared.Format.{Format}
 use Rattle.counter_modes.specs.declared.Format.the-variants.{LeastByte, MostByte, TwoBytes}

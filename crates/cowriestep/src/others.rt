@@ -13,7 +13,7 @@ ghost use Rattle.machine_due.specs.Due.{dueOf};
 ghost use Rattle.board_stores.specs.Stores.{freshMemory, freshEeprom, storesAnswer};
 ghost use Rattle.board_refusal.specs.Working.{isWorkingBoard};
 ghost use Rattle.board_advance.specs.Advance.{advancedOf};
-ghost use Rattle.collector_records.specs.Records.{started};
+ghost use Rattle.collector_records.specs.Records.{startOf};
 ghost use Rattle.collector_phases.specs.Accesses.{accessOf};
 ghost use Rattle.collector_replies.specs.Reply.{told};
 ghost use Rattle.collector_phases.specs.Fit.{fit};
@@ -75,7 +75,7 @@ pub extern "C" fn dmm32_due(before: Board, after: Board) -> u32
 // A collector for these settings, or the refusal 14, 11, 12 or 13.
 #[no_mangle]
 pub extern "C" fn dmm32_collector_start(settings: Settings) -> StartAnswer
-    ensures { λ r. ⌜ r ≡ startAnswer (started settings) ⌝ }
+    ensures { λ r. ⌜ r ≡ startAnswer (startOf settings) ⌝ }
 {
     numbers_collector::start(settings)
 }

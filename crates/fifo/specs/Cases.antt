@@ -4,20 +4,20 @@ use Rattle.fifo.specs.declared.Fifo.{Fifo}
 use Rattle.fifo.specs.Flags.{flagBits}
 use Rattle.fifo.specs.Queue.{pushedTo, poppedFrom}
 
-abbrev pub full : Fifo
-full = record { held = 512; ovf = 0 }
+abbrev pub fullFifo : Fifo
+fullFifo = record { held = 512; ovf = 0 }
 
 -- 7 reads 60 in hexadecimal
-pub full-reads : flagBits full ≡ 96
+pub full-reads : flagBits fullFifo ≡ 96
 unfolding flagBits
 full-reads = refl
 
 -- after one more end it reads 70
-pub over-reads : flagBits (pushedTo full) ≡ 112
+pub over-reads : flagBits (pushedTo fullFifo) ≡ 112
 unfolding flagBits pushedTo
 over-reads = refl
 
 -- a read then leaves 511 held and OVF clear
-pub read-clears : poppedFrom (pushedTo full) ≡ record { held = 511; ovf = 0 }
+pub read-clears : poppedFrom (pushedTo fullFifo) ≡ record { held = 511; ovf = 0 }
 unfolding pushedTo poppedFrom
 read-clears = refl

@@ -18,11 +18,11 @@ use Rattle.machine_record.specs.declared.Registers.{Registers}
 use Rattle.machine_record.specs.declared.Board.{Board}
 
 -- how the record keeps the channel configuration of manual 5.4
-abbrev pub numberOf : Jumpers → ℕ
-numberOf A = 0
-numberOf B = 1
-numberOf C = 2
-numberOf D = 3
+abbrev pub jumpersNumber : Jumpers → ℕ
+jumpersNumber A = 0
+jumpersNumber B = 1
+jumpersNumber C = 2
+jumpersNumber D = 3
 
 -- and back; of any other number, D
 abbrev pub jumpersOf : ℕ → Jumpers
@@ -46,5 +46,5 @@ freshBoard j zeroscale = record {
   ports = freshPorts;
   calibration = freshCalibration;
   pins = record { din = 15; latch = 0 };
-  wiring = record { inputs = numberOf j; zeroscale = flag zeroscale };
+  wiring = record { inputs = jumpersNumber j; zeroscale = flag zeroscale };
 }

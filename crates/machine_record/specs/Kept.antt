@@ -19,7 +19,7 @@ use Rattle.calibration_registers.specs.Laws as calibration
 use Rattle.calibration_registers.specs.Working.{WorkingCalibration}
 use Rattle.calibration_registers.specs.declared.Calibration.{Calibration}
 use Rattle.machine_record.specs.Parts.{withConverter, withRegisters, withOutputs, withClocks, withPorts, withCalibration}
-use Rattle.machine_record.specs.Fresh.{freshBoard, numberOf}
+use Rattle.machine_record.specs.Fresh.{freshBoard, jumpersNumber}
 use Rattle.machine_record.specs.Working.{WorkingRegisters, WorkingClocks, WorkingMachine}
 use Rattle.machine_record.specs.declared.Jumpers.{Jumpers}
 use Rattle.machine_record.specs.declared.Jumpers.the-variants.{A, B, C, D}
@@ -138,7 +138,7 @@ same-working b c w r d l p0 p1 p2 p3 p4 p5 p6 = record {
 }
 
 -- ---- the fresh board
-inputs-in-range : (j : Jumpers) → numberOf j ≤ 3
+inputs-in-range : (j : Jumpers) → jumpersNumber j ≤ 3
 inputs-in-range A = omega arith
 inputs-in-range B = omega arith
 inputs-in-range C = omega arith

@@ -12,7 +12,7 @@ use Rattle.converter.specs.Working as converter
 use Rattle.requests.specs.Working.{WorkingRequests, isWorkingRequests, requests-of, requests-to}
 use Rattle.outputs.specs.Working.{WorkingOutputs, isWorkingOutputs}
 use Rattle.outputs.specs.Laws.{outputs-of, outputs-to}
-use Rattle.timer.specs.Working.{WorkingTimer, flagsWork, controlsWork, timer-of, timer-to}
+use Rattle.timer.specs.Working.{WorkingTimer, timerFlagsWork, controlsWork, timer-of, timer-to}
 use Rattle.ports.specs.Working.{WorkingPorts, isWorkingPorts}
 use Rattle.ports.specs.Laws.{ports-of, ports-to}
 use Rattle.calibration_registers.specs.Working.{WorkingCalibration, isWorkingCalibration}
@@ -65,7 +65,7 @@ mostTests b =
     ∷ isWorkingPorts (b .ports)
     ∷ isWorkingCalibration (b .calibration)
     ∷ all (pinTests (b .pins) (b .wiring))
-    ∷ flagsWork (b .clocks .timer)
+    ∷ timerFlagsWork (b .clocks .timer)
     ∷ []
 
 unfoldable pub isWorkingMachine : Board → Bool
@@ -108,6 +108,6 @@ machine-to b w =
     let p = ports-to _ (w .ports) in
     let k = calibration-to _ (w .calibration) in
     let i = every (pinTests (b .pins) (b .wiring)) (search le-leb) in
-    let t = both (flagsWork (b .clocks .timer)) (controlsWork (b .clocks .timer)) (timer-to _ (w .clocks .timer)) in
+    let t = both (timerFlagsWork (b .clocks .timer)) (controlsWork (b .clocks .timer)) (timer-to _ (w .clocks .timer)) in
     let f = t .0 in
     rw (every (mostTests b) (search (le-leb, c, r, g, o, p, k, i, f) depth 24)) (t .1)

@@ -2,7 +2,7 @@
 // them sees the sample memory or the EEPROM. Each contract is a definition of specs/.
 ghost use mathlib.Core.Path.{_≡_};
 ghost use Rattle.base.specs.Tests.{all};
-ghost use Rattle.machine_record.specs.Fresh.{freshRegisters, freshBoard, numberOf};
+ghost use Rattle.machine_record.specs.Fresh.{freshRegisters, freshBoard, jumpersNumber};
 ghost use Rattle.machine_record.specs.Working.{registerTests, pinTests, mostTests, isWorkingMachine};
 ghost use Rattle.machine_record.specs.View.{doutPins, singleEnded};
 use calibration::Calibration;
@@ -67,7 +67,7 @@ pub struct Board {
 }
 
 fn number_of(jumpers: Jumpers) -> u8
-    ensures { λ r. ⌜ r ≡ numberOf jumpers ⌝ }
+    ensures { λ r. ⌜ r ≡ jumpersNumber jumpers ⌝ }
 {
     match jumpers {
         Jumpers::A => 0,

@@ -7,7 +7,7 @@ use Rattle.base.specs.Choice.{if_then_else_}
 use Rattle.base.specs.Fields.{bit}
 use Rattle.converter.specs.Registers.{freshConverter}
 use Rattle.requests.specs.Registers.{freshRequests}
-use Rattle.requests.specs.Requests.{cleared}
+use Rattle.requests.specs.Requests.{flagsCleared}
 use Rattle.outputs.specs.Outputs.{resetA, resetD}
 use Rattle.outputs.specs.declared.Outputs.{Outputs}
 use Rattle.timer.specs.Timer.{gatesMoved}
@@ -42,7 +42,7 @@ boardReset b analog = record {
 
 -- "INTRST clears all three request flags and leaves page and key alone"
 unfoldable pub requestsCleared : Board → Board
-requestsCleared b = withRequests b (cleared (b .requests))
+requestsCleared b = withRequests b (flagsCleared (b .requests))
 
 -- "Otherwise the page is set and the key forgotten"
 abbrev pub withPage : Registers → ℕ → Registers

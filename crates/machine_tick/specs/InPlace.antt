@@ -50,13 +50,13 @@ abbrev pub falls2 : Clocks → Clocks → Bool
 falls2 was is = fell (out (was .timer) Counter2) (out (is .timer) Counter2)
 
 -- ---- the whole tick, of a board whose clocks become l
-abbrev pub broughtBy : Board → Clocks → Board
-broughtBy b l = record {
+abbrev pub tickedTo : Board → Clocks → Board
+tickedTo b l = record {
   converter = internalTriggered (b .converter) (on (b .requests .clksel)) (falls2 (b .clocks) l);
   requests = askedTimer (b .requests) (falls0 (b .clocks) l);
   fifo = b .fifo;
   registers = b .registers;
-  outputs = outputs.ticked (b .outputs);
+  outputs = outputs.dacTicked (b .outputs);
   clocks = l;
   ports = b .ports;
   calibration = b .calibration;
@@ -153,7 +153,7 @@ asked-le : (r : Requests) (f : Bool) → askedTimer r f .flags .tint ≤ 1
 asked-le r f = flag-le (on (r .flags .tint) || on (r .tinte) && f)
 
 -- ---- a tick is what the clocks after it bring about
-pub tick-of : (b : Board) → ticked b ≡ broughtBy b (clocksTicked (b .registers .counting) (gates b) (b .clocks))
+pub tick-of : (b : Board) → ticked b ≡ tickedTo b (clocksTicked (b .registers .counting) (gates b) (b .clocks))
 unfolding ticked outputsTicked dividersTicked clocksTicked
 tick-of b =
     ap (λ (x : Board). outputsTicked (counter1Ticked x)) (step0 (dividersTicked b))

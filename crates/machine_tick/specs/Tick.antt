@@ -42,7 +42,7 @@ unfoldable pub counter1Ticked : Board → Board
 counter1Ticked b = timerMoved b (clockedIf (b .clocks .timer) Counter1 (gates b) (clock1 (b .registers .counting) (b .clocks .hundred)))
 
 unfoldable pub outputsTicked : Board → Board
-outputsTicked b = withOutputs b (outputs.ticked (b .outputs))
+outputsTicked b = withOutputs b (outputs.dacTicked (b .outputs))
 
 unfoldable pub ticked : Board → Board
 ticked b = outputsTicked (counter1Ticked (counter0Ticked (dividersTicked b)))

@@ -7,7 +7,7 @@ use lib.IntN.{pos}
 use lib.ListN.{replicate}
 use Rattle.base.specs.Flags.{on}
 use Rattle.fifo.specs.Queue.{layout}
-use Rattle.fifo.specs.declared.Fifo.{Fifo}
+use Rattle.fifo.specs.Cases.{fullFifo}
 use Rattle.machine_record.specs.Fresh.{freshBoard}
 use Rattle.machine_record.specs.Parts.{withFifo}
 use Rattle.machine_record.specs.declared.Board.{Board}
@@ -24,9 +24,6 @@ abbrev pub fresh : State
 fresh = freshState A false
 
 -- a fresh board that holds these samples, 512 of them
-abbrev pub fullFifo : Fifo
-fullFifo = record { held = 512; ovf = 0 }
-
 abbrev pub full : List ℕ → State
 full samples = record { board = withFifo (freshBoard A false) fullFifo; memory = layout fullFifo samples; eeprom = replicate 128 0 }
 

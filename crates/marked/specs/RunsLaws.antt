@@ -5,6 +5,7 @@ use mathlib.Core.Bool.{false}
 use mathlib.Core.List.{List, [], _∷_}
 use native.Mathlib.Omega.{arith}
 use lib.ListN.{length}
+use Rattle.fifo.specs.Cases.{fullFifo}
 use Rattle.fifo.specs.Queue.{layout}
 use Rattle.fifo.specs.Queue.Places.{queue-layout, length-layout}
 use Rattle.fifo.specs.Queue.Laws.{queue-clear}
@@ -18,7 +19,7 @@ use Rattle.board_events.specs.declared.Event.{Event}
 use Rattle.board_step.specs.States.{State, Works, answerAt, afterEvent}
 use Rattle.board_laws.specs.Stretches.{afterEvents}
 use Rattle.board_laws.specs.StretchSteps.{works-on, fresh-state-works}
-use Rattle.marked.specs.Runs.{fresh, fullFifo, full, answers, shownAfter}
+use Rattle.marked.specs.Runs.{fresh, full, answers, shownAfter}
 
 -- ---- both boards work
 pub fresh-works : Works fresh

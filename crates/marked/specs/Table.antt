@@ -33,10 +33,10 @@ use Rattle.board_events.specs.declared.Answer.the-variants.{Done, Byte, Word}
 use Rattle.board_events.specs.declared.Event.{Event}
 use Rattle.board_events.specs.declared.Event.the-variants.{WriteByte, ReadByte, ReadWord, ConversionEnd, Tick}
 use Rattle.volts.specs.declared.Voltage.the-variants.{Volts}
-use Rattle.volts.specs.Volts.{readingOf, voltage}
+use Rattle.volts.specs.Volts.{inputVoltageOf, voltage}
 use Rattle.codes.specs.Output.{given, refused, outputOf, bytesOf}
 use Rattle.collector_settings.specs.Settings.{startRefusal}
-use Rattle.collector_records.specs.Records.{begun, started}
+use Rattle.collector_records.specs.Records.{firstRecord, startOf}
 use Rattle.collector_records.specs.declared.Started.the-variants.{Begun, NotBegun}
 use Rattle.marked.specs.Runs.{fresh, full, answers, shownAfter, OUT0, channel, times, conversions, beginnings, eachTick, jumpersC}
 use Rattle.marked.specs.RunsLaws as runs
@@ -72,7 +72,7 @@ pub record Marked : Type 0 where
   pub case-6 : codeOf (0x60 + 256 * 0xC5) ≡ negℤ (pos 15008)
   pub case-6-bytes : answers (afterEvents fresh (WriteByte 0 0 ∷ ConversionEnd (negℤ (pos 15008)) ∷ [])) (ReadByte 0 ∷ ReadByte 1 ∷ [])
       ≡ Byte 0x60 ∷ Byte 0xC5 ∷ []
-  pub case-6-volts : voltage (readingOf (negℤ (pos 15008)) 0) ≡ Volts (fin true 2345 (negsuc 9))
+  pub case-6-volts : voltage (inputVoltageOf (negℤ (pos 15008)) 0) ≡ Volts (fin true 2345 (negsuc 9))
   pub case-6-decimal : HasValue (fin true 2345 (negsuc 9)) true 22900390625 (10 ^ 10)
   pub case-6-hex : (_≡_ {A = ℕ} 17762 0x4562) × (_≡_ {A = ℕ} 17760 0x4560)
   -- 7. 3,000,000 µV, ±5: 3277, for channel 1 bytes 205, 76
@@ -89,8 +89,8 @@ pub record Marked : Type 0 where
   pub case-10 : shownAfter OUT0 (afterEvents fresh (counter0 0x10 2)) (eachTick 4) ≡ false ∷ false ∷ true ∷ true ∷ []
   pub case-10-count : afterEvents fresh (counter0 0x10 2 ++ times 4 Tick) .board .clocks .timer .counter0 .count .element ≡ 65535
   -- 11. Jumpers C, 8-15 taken; 15-24 refused 12
-  pub case-11-taken : started (jumpersC 8 15) ≡ Begun (begun (jumpersC 8 15))
-  pub case-11-refused : started (jumpersC 15 24) ≡ NotBegun 12
+  pub case-11-taken : startOf (jumpersC 8 15) ≡ Begun (firstRecord (jumpersC 8 15))
+  pub case-11-refused : startOf (jumpersC 15 24) ≡ NotBegun 12
 
 -- ---- the cases on a fresh board, by what it holds
 said : (es : List Event) → answers fresh es ≡ runs.heldAnswers runs.freshHeld es
@@ -104,7 +104,7 @@ seen : {X : Type 0} (look : Board → X) (es : List Event) (ess : List (List Eve
 seen look es ess = runs.shown-held look _ _ ess (runs.events-hold fresh runs.freshHeld es runs.fresh-holds)
 
 pub marked : Marked
-unfolding started startRefusal command wordRefused setupOf countedBy commanded pulsed gateMoved counterRead byteRefused byteWritten moved clockedIf gatesMoved
+unfolding startOf startRefusal command wordRefused setupOf countedBy commanded pulsed gateMoved counterRead byteRefused byteWritten moved clockedIf gatesMoved
     controlWordRefused controlWordWritten countRefused countWritten timerRead pushed pushedTo poppedFrom flagBits nextChannel timerMoved dividersTicked
     counter0Ticked
     counter1Ticked outputsTicked ticked countingWritten boardReset requestsCleared pageSet miscWritten placeOf byteAt afterRead readEffect writtenAt writeEffect

@@ -6,7 +6,7 @@ use native.Mathlib.Omega.{arith}
 use lib.Dec.{leb}
 use Rattle.base.specs.Choice.{if_then_else_}
 use Rattle.base.specs.Flags.{nonzero}
-use Rattle.machine_record.specs.Fresh.{freshBoard, numberOf}
+use Rattle.machine_record.specs.Fresh.{freshBoard, jumpersNumber}
 use Rattle.machine_record.specs.Working.{isWorkingMachine, machine-of}
 use Rattle.machine_record.specs.declared.Board.{Board}
 use Rattle.machine_record.specs.declared.Jumpers.{Jumpers}
@@ -36,7 +36,7 @@ abbrev pub freshOf : ℕ → ℕ → Board
 freshOf jumpers zeroscale = wiredAs (freshBoard A (nonzero zeroscale)) (byteOrAll jumpers)
 
 -- it is the fresh board of the jumpers that the number stands for
-pub fresh-of : (j : Jumpers) (zeroscale : ℕ) → freshOf (numberOf j) zeroscale ≡ freshBoard j (nonzero zeroscale)
+pub fresh-of : (j : Jumpers) (zeroscale : ℕ) → freshOf (jumpersNumber j) zeroscale ≡ freshBoard j (nonzero zeroscale)
 fresh-of A z = refl
 fresh-of B z = refl
 fresh-of C z = refl

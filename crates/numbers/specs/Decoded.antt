@@ -15,7 +15,7 @@ use Rattle.board_events.specs.declared.Answer.{Answer}
 use Rattle.board_events.specs.declared.Answer.the-variants.{Done, Byte, Word, Refused}
 use Rattle.board_events.specs.declared.Event.{Event}
 use Rattle.board_events.specs.declared.Event.the-variants.{Tick}
-use Rattle.board_step.specs.Step.{number, stepOf, memoryAfter, eepromAfter}
+use Rattle.board_step.specs.Step.{refusalOf, stepOf, memoryAfter, eepromAfter}
 use Rattle.board_step.specs.Lent.{Stepped}
 use Rattle.board_step.specs.News.{news}
 use Rattle.board_advance.specs.Advance.{advancedFrom, advancedOf}
@@ -50,7 +50,7 @@ answers-apart b b′ m m′ e e′ ev ev′ w w′ s s′ h = sym (step-decoded 
 -- ---- many ticks: their answer is read as it was given too, whatever the record. No tick brings a value
 tick-value : (b : Board) (m e : List ℕ) → valueRead (stepOf b m e Tick .answer) < 65536
 unfolding valueBrought
-tick-value b m e = rw (answer-value b m e Tick) (by (eqb (number b m e Tick) 0))
+tick-value b m e = rw (answer-value b m e Tick) (by (eqb (refusalOf b m e Tick) 0))
   where
     by : (t : Bool) → (if_then_else_ {A = ℕ} t 0 0) < 65536
     by true = omega arith
@@ -72,5 +72,5 @@ ticks-decoded (suc n) d b m e =
 pub advance-decoded : (b : Board) (memory eeprom : List ℕ) (ticks : ℕ) → ReadBack (advancedOf b memory eeprom ticks)
 unfolding advancedOf
 advance-decoded b m e ticks =
-    either-way (eqb (number b m e Tick) 0) _ _ (ticks-decoded ticks 0 b m e)
-    (decoded-answer (Refused (number b m e Tick)) (omega (arith, refusal-bound b m e Tick)) (omega arith))
+    either-way (eqb (refusalOf b m e Tick) 0) _ _ (ticks-decoded ticks 0 b m e)
+    (decoded-answer (Refused (refusalOf b m e Tick)) (omega (arith, refusal-bound b m e Tick)) (omega arith))

@@ -75,7 +75,7 @@ use Rattle.board_events.specs.declared.Event.{Event}
 use Rattle.board_events.specs.declared.Event.the-variants.{WriteByte, ReadByte, ReadWord, ConversionEnd, DinPins, LatchLevel, PortPins, Tick, TransferEnd}
 use Rattle.board_events.specs.Answers.{valueRead}
 use Rattle.bus.specs.Place.{placeOf}
-use Rattle.board_step.specs.Step.{number, stepOf}
+use Rattle.board_step.specs.Step.{refusalOf, stepOf}
 use Rattle.board_step.specs.Passed.{all-passed}
 use Rattle.board_laws.specs.Answers.{valueBrought, answer-value}
 use Rattle.numbers.specs.Typed.{Recorded, Sixteen}
@@ -228,8 +228,8 @@ brought-below b m TransferEnd r h = omega arith
 
 -- the value in a step's answer is one of 16 bits
 pub value-below : (b : Board) (m e : List ℕ) (ev : Event) → Recorded b → Sixteen m → valueRead (stepOf b m e ev .answer) < 65536
-value-below b m e ev r s = rw (answer-value b m e ev) (by (eqb (number b m e ev) 0) refl)
+value-below b m e ev r s = rw (answer-value b m e ev) (by (eqb (refusalOf b m e ev) 0) refl)
   where
-    by : (t : Bool) → eqb (number b m e ev) 0 ≡ t → (if t then valueBrought b (queue (b .fifo) m) ev else 0) < 65536
+    by : (t : Bool) → eqb (refusalOf b m e ev) 0 ≡ t → (if t then valueBrought b (queue (b .fifo) m) ev else 0) < 65536
     by true z = brought-below b m ev r (oldest-below (b .fifo) m (all-passed b m e ev (eqb-true _ _ z) .works .fifo) s)
     by false z = omega arith

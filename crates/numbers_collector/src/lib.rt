@@ -1,7 +1,7 @@
 // The collector by value, in records of numbers, for hosts in other languages (include/cowriestep.h): so that the exported functions only pass them on.
 ghost use mathlib.Core.Path.{_≡_};
 ghost use lib.ListN.{length};
-ghost use Rattle.collector_records.specs.Records.{started};
+ghost use Rattle.collector_records.specs.Records.{startOf};
 ghost use Rattle.collector_phases.specs.Accesses.{accessOf};
 ghost use Rattle.collector_replies.specs.Reply.{told};
 ghost use Rattle.collector.specs.Handed.{handedRefusal};
@@ -89,7 +89,7 @@ fn answer_start(s: Started) -> StartAnswer
 
 // A collector for these settings, or the refusal 14, 11, 12 or 13.
 pub fn start(settings: Settings) -> StartAnswer
-    ensures { λ r. ⌜ r ≡ startAnswer (started settings) ⌝ }
+    ensures { λ r. ⌜ r ≡ startAnswer (startOf settings) ⌝ }
 {
     answer_start(collector::start(settings))
 }

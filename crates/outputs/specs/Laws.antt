@@ -10,7 +10,7 @@ use Rattle.base.specs.Laws.{by-choice, choice-le}
 use Rattle.base.specs.Tests.{each, every}
 use Rattle.outputs.specs.declared.Codes.{Codes}
 use Rattle.outputs.specs.declared.Outputs.{Outputs}
-use Rattle.outputs.specs.Outputs.{codeOf, took, dacbusy, put, level, lsbWritten, msbWritten, updated, ticked, cleared, resetA, resetD}
+use Rattle.outputs.specs.Outputs.{codeOn, codeAfter, dacbusy, codesWith, level, lsbWritten, msbWritten, updated, dacTicked, resetTo, resetA, resetD}
 use Rattle.outputs.specs.Working.{WorkingCodes, WorkingOutputs, outputsTests, isWorkingOutputs}
 
 -- ---- the tests are the facts
@@ -27,7 +27,7 @@ pub outputs-to : (o : Outputs) → WorkingOutputs o → isWorkingOutputs o ≡ t
 outputs-to o k = every (outputsTests o) (search (le-leb, arith))
 
 -- ---- each operation keeps them
-pub put-works : (k : Codes) (channel code : ℕ) → WorkingCodes k → code ≤ 4095 → WorkingCodes (put k channel code)
+pub put-works : (k : Codes) (channel code : ℕ) → WorkingCodes k → code ≤ 4095 → WorkingCodes (codesWith k channel code)
 put-works k channel code w h = record {
   out0 = choice-le (eqb channel 0) h (w .out0);
   out1 = choice-le (eqb channel 1) h (w .out1);
@@ -50,10 +50,10 @@ updated-works o w = record {
   busy = w .busy;
 }
 
-pub ticked-works : (o : Outputs) → WorkingOutputs o → WorkingOutputs (ticked o)
+pub ticked-works : (o : Outputs) → WorkingOutputs o → WorkingOutputs (dacTicked o)
 ticked-works o w = record { codes = w .codes; load = w .load; busy = omega arith }
 
-pub cleared-works : (k : Codes) → WorkingCodes k → WorkingOutputs (cleared k)
+pub cleared-works : (k : Codes) → WorkingCodes k → WorkingOutputs (resetTo k)
 cleared-works k w = record { codes = w; load = record { loaded = omega arith; channel = omega arith; code = omega arith }; busy = omega arith }
 
 pub reset-a-works : (zero : Bool) → WorkingOutputs (resetA zero)
@@ -65,7 +65,7 @@ reset-d-works o w = cleared-works (o .codes) (w .codes)
 
 -- ---- what the accesses do to each other
 -- the channel that takes a code has it
-pub code-of-put : (k : Codes) (n code : ℕ) → n ≤ 3 → codeOf (put k n code) n ≡ code
+pub code-of-put : (k : Codes) (n code : ℕ) → n ≤ 3 → codeOn (codesWith k n code) n ≡ code
 code-of-put k zero code h = refl
 code-of-put k (suc zero) code h = refl
 code-of-put k (suc (suc zero)) code h = refl
@@ -73,11 +73,11 @@ code-of-put k (suc (suc (suc zero))) code h = refl
 code-of-put k (suc (suc (suc (suc n)))) code h = absurd (omega arith)
 
 -- and every other channel keeps its own
-other : (own old channel code : ℕ) → (channel ≡ own → ⊥) → took own old channel code ≡ old
+other : (own old channel code : ℕ) → (channel ≡ own → ⊥) → codeAfter own old channel code ≡ old
 other own old channel code h = simp (ne-eqb _ _ h)
 
 -- there is no channel above 3
-code-above : (k : Codes) (m : ℕ) → 3 < m → codeOf k m ≡ 0
+code-above : (k : Codes) (m : ℕ) → 3 < m → codeOn k m ≡ 0
 code-above k m h =
     simp (
       ne-eqb m 0 (λ e. omega arith),
@@ -86,28 +86,28 @@ code-above k m h =
       ne-eqb m 3 (λ e. omega arith),
     )
 
-pub code-of-other : (k : Codes) (n m code : ℕ) → (n ≡ m → ⊥) → codeOf (put k n code) m ≡ codeOf k m
+pub code-of-other : (k : Codes) (n m code : ℕ) → (n ≡ m → ⊥) → codeOn (codesWith k n code) m ≡ codeOn k m
 code-of-other k n zero code h = other 0 (k .out0) n code h
 code-of-other k n (suc zero) code h = other 1 (k .out1) n code h
 code-of-other k n (suc (suc zero)) code h = other 2 (k .out2) n code h
 code-of-other k n (suc (suc (suc zero))) code h = other 3 (k .out3) n code h
 code-of-other k n (suc (suc (suc (suc m)))) code h =
-    code-above (put k n code) (suc (suc (suc (suc m)))) (omega arith) ∙ sym (code-above k (suc (suc (suc (suc m)))) (omega arith))
+    code-above (codesWith k n code) (suc (suc (suc (suc m)))) (omega arith) ∙ sym (code-above k (suc (suc (suc (suc m)))) (omega arith))
 
 -- some ticks, one after the other
-abbrev pub afterTicks : ℕ → Outputs → Outputs
-afterTicks zero o = o
-afterTicks (suc n) o = ticked (afterTicks n o)
+abbrev pub dacAfterTicks : ℕ → Outputs → Outputs
+dacAfterTicks zero o = o
+dacAfterTicks (suc n) o = dacTicked (dacAfterTicks n o)
 
 -- DACBUSY is 1 for 100 ticks after a write of Base+5: still after the 99th, no longer after the 100th
-pub busy-ticks : (o : Outputs) (n : ℕ) → (afterTicks n o) .busy ≡ o .busy - n
+pub busy-ticks : (o : Outputs) (n : ℕ) → (dacAfterTicks n o) .busy ≡ o .busy - n
 busy-ticks o zero = omega arith
 busy-ticks o (suc n) = omega (arith, busy-ticks o n)
 
-pub busy-99 : (o : Outputs) (v : ℕ) → dacbusy (afterTicks 99 (msbWritten o v)) ≡ true
+pub busy-99 : (o : Outputs) (v : ℕ) → dacbusy (dacAfterTicks 99 (msbWritten o v)) ≡ true
 busy-99 o v = refl
 
-pub busy-100 : (o : Outputs) (v : ℕ) → dacbusy (afterTicks 100 (msbWritten o v)) ≡ false
+pub busy-100 : (o : Outputs) (v : ℕ) → dacbusy (dacAfterTicks 100 (msbWritten o v)) ≡ false
 busy-100 o v = refl
 
 -- a write of Base+4 after the load leaves the load
@@ -119,5 +119,5 @@ pub load-kept : (o : Outputs) → (updated o) .load ≡ o .load
 load-kept o = refl
 
 -- the manual's example (chapter 14): 205 at Base+4, 76 at Base+5 and, 100 ticks on, an update give channel 1 the code 3277
-pub example-14 : (o : Outputs) → codeOf ((updated (afterTicks 100 (msbWritten (lsbWritten o 205) 76))) .codes) 1 ≡ 3277
+pub example-14 : (o : Outputs) → codeOn ((updated (dacAfterTicks 100 (msbWritten (lsbWritten o 205) 76))) .codes) 1 ≡ 3277
 example-14 o = refl

@@ -12,8 +12,8 @@ use Rattle.outputs.specs.declared.Outputs.{Outputs}
 
 -- ---- the codes of the four output channels
 -- the code of output channel n, as a host sees it; there is no channel above 3, which reads 0
-abbrev pub codeOf : Codes → ℕ → ℕ
-codeOf k n =
+abbrev pub codeOn : Codes → ℕ → ℕ
+codeOn k n =
     if eqb n 0 then k .out0
     else if eqb n 1 then k .out1
     else if eqb n 2 then k .out2
@@ -21,16 +21,16 @@ codeOf k n =
     else 0
 
 -- what output channel `own` holds once `channel` has taken `code`
-abbrev pub took : ℕ → ℕ → ℕ → ℕ → ℕ
-took own old channel code = if eqb channel own then code else old
+abbrev pub codeAfter : ℕ → ℕ → ℕ → ℕ → ℕ
+codeAfter own old channel code = if eqb channel own then code else old
 
 -- output `channel` takes `code`, the others keep theirs
-abbrev pub put : Codes → ℕ → ℕ → Codes
-put k channel code = record {
-  out0 = took 0 (k .out0) channel code;
-  out1 = took 1 (k .out1) channel code;
-  out2 = took 2 (k .out2) channel code;
-  out3 = took 3 (k .out3) channel code;
+abbrev pub codesWith : Codes → ℕ → ℕ → Codes
+codesWith k channel code = record {
+  out0 = codeAfter 0 (k .out0) channel code;
+  out1 = codeAfter 1 (k .out1) channel code;
+  out2 = codeAfter 2 (k .out2) channel code;
+  out3 = codeAfter 3 (k .out3) channel code;
 }
 
 -- all at one code
@@ -38,8 +38,8 @@ abbrev pub level : ℕ → Codes
 level code = record { out0 = code; out1 = code; out2 = code; out3 = code }
 
 -- the code after RESETA: mid-scale, or zero-scale by jumper (manual, 5.5)
-abbrev pub scaleOf : Bool → ℕ
-scaleOf zero = if zero then 0 else 2048
+abbrev pub resetCode : Bool → ℕ
+resetCode zero = if zero then 0 else 2048
 
 -- ---- the load (Base+5 write: DACH1 DACH0 X X DA11 DA10 DA9 DA8)
 -- channel DACH1-0; DA11-8 stand in the byte that is written, DA7-0 in the holding byte of Base+4 at that moment
@@ -65,7 +65,7 @@ msbWritten o v = record { codes = o .codes; load = loadOf (o .lsb) v; lsb = o .l
 
 -- read of Base+5: if not busy, the last loaded channel takes its code; with nothing loaded since a reset, no change; the load stays
 abbrev pub updatedCodes : Outputs → Codes
-updatedCodes o = if on (o .load .loaded) && not (dacbusy o) then put (o .codes) (o .load .channel) (o .load .code) else o .codes
+updatedCodes o = if on (o .load .loaded) && not (dacbusy o) then codesWith (o .codes) (o .load .channel) (o .load .code) else o .codes
 
 abbrev pub updated : Outputs → Outputs
 updated o = record { codes = updatedCodes o; load = o .load; lsb = o .lsb; busy = o .busy }
@@ -75,17 +75,17 @@ abbrev pub updateAnswer : Outputs → ℕ
 updateAnswer o = 0
 
 -- ---- one tick: DACBUSY counts down
-abbrev pub ticked : Outputs → Outputs
-ticked o = record { codes = o .codes; load = o .load; lsb = o .lsb; busy = o .busy - 1 }
+abbrev pub dacTicked : Outputs → Outputs
+dacTicked o = record { codes = o .codes; load = o .load; lsb = o .lsb; busy = o .busy - 1 }
 
 -- ---- resets: both drop the load, end DACBUSY and zero the holding byte
-abbrev pub cleared : Codes → Outputs
-cleared k = record { codes = k; load = noLoad; lsb = 0; busy = 0 }
+abbrev pub resetTo : Codes → Outputs
+resetTo k = record { codes = k; load = noLoad; lsb = 0; busy = 0 }
 
 -- RESETA sets the outputs to mid-scale, or to 0 by jumper; a fresh board is as after RESETA
 abbrev pub resetA : Bool → Outputs
-resetA zero = cleared (level (scaleOf zero))
+resetA zero = resetTo (level (resetCode zero))
 
 -- RESETD keeps them
 abbrev pub resetD : Outputs → Outputs
-resetD o = cleared (o .codes)
+resetD o = resetTo (o .codes)

@@ -2,8 +2,8 @@
 // one of them, and DACBUSY. Each function's contract is a definition of specs/Outputs.antt.
 ghost use mathlib.Core.Path.{_≡_};
 ghost use Prim.Native.Nat.{_-_};
-ghost use Rattle.outputs.specs.Outputs.{scaleOf, took, updatedCodes, codeOf, dacbusy, updateAnswer};
-ghost use Rattle.outputs.specs.Outputs.{lsbWritten, msbWritten, updated, ticked, resetA, resetD, cleared, put, loadOf, level};
+ghost use Rattle.outputs.specs.Outputs.{resetCode, codeAfter, updatedCodes, codeOn, dacbusy, updateAnswer};
+ghost use Rattle.outputs.specs.Outputs.{lsbWritten, msbWritten, updated, dacTicked, resetA, resetD, resetTo, codesWith, loadOf, level};
 ghost use Rattle.outputs.specs.Working.{isWorkingOutputs};
 
 // The 12-bit code of each output channel.
@@ -36,7 +36,7 @@ pub struct Outputs {
 
 // The code after RESETA: mid-scale, or zero-scale by jumper.
 fn scale(zero_scale: bool) -> u16
-    ensures { λ r. ⌜ r ≡ scaleOf «zero_scale» ⌝ }
+    ensures { λ r. ⌜ r ≡ resetCode «zero_scale» ⌝ }
 {
     if zero_scale { 0 } else { 2048 }
 }
@@ -55,14 +55,14 @@ fn all_at(code: u16) -> Codes
 
 // What output channel `own` holds once `channel` has taken `code`.
 fn took_by(own: u8, old: u16, channel: u8, code: u16) -> u16
-    ensures { λ r. ⌜ r ≡ took own old channel code ⌝ }
+    ensures { λ r. ⌜ r ≡ codeAfter own old channel code ⌝ }
 {
     if channel == own { code } else { old }
 }
 
 // Output `channel` takes `code`, the others keep theirs.
 fn put_code(k: Codes, channel: u8, code: u16) -> Codes
-    ensures { λ r. ⌜ r ≡ put k channel code ⌝ }
+    ensures { λ r. ⌜ r ≡ codesWith k channel code ⌝ }
 {
     Codes {
         out0: took_by(0, k.out0, channel, code),
@@ -86,7 +86,7 @@ fn load_of(lsb: u8, v: u8) -> Load
 
 // The outputs at some codes, with nothing loaded.
 fn clear(codes: Codes) -> Outputs
-    ensures { λ r. ⌜ r ≡ cleared codes ⌝ }
+    ensures { λ r. ⌜ r ≡ resetTo codes ⌝ }
 {
     Outputs {
         codes: codes,
@@ -169,7 +169,7 @@ fn less(n: u8) -> u8
 
 // One tick of DACBUSY.
 pub fn tick(o: Outputs) -> Outputs
-    ensures { λ r. ⌜ r ≡ ticked o ⌝ }
+    ensures { λ r. ⌜ r ≡ dacTicked o ⌝ }
 {
     let mut p = o;
     p.busy = less(o.busy);
@@ -193,7 +193,7 @@ pub fn reset_d(o: Outputs) -> Outputs
 
 // The code of output channel n; there is none above 3, which reads 0.
 pub fn code_at(o: Outputs, n: u8) -> u16
-    ensures { λ r. ⌜ r ≡ codeOf (o .codes) n ⌝ }
+    ensures { λ r. ⌜ r ≡ codeOn (o .codes) n ⌝ }
 {
     let k = o.codes;
     match n {

@@ -11,7 +11,7 @@ use Rattle.ports.specs.declared.Port.{Port}
 use Rattle.ports.specs.declared.Port.the-variants.{PortA, PortB, PortC}
 use Rattle.ports.specs.declared.Lines.{Lines}
 use Rattle.ports.specs.declared.Ports.{Ports}
-use Rattle.ports.specs.Ports.{lineOf, withLine, noLines, joined, controlTests, controlTaken}
+use Rattle.ports.specs.Ports.{lineOf, withLine, noLines, joined, portControlTests, controlTaken}
 use Rattle.ports.specs.Ports.{portControlWritten, latchWritten, portRead, pinsSet, driven, levels, resetPorts, freshPorts}
 use Rattle.ports.specs.Working.{WorkingControl, WorkingPorts, isWorkingPorts}
 
@@ -22,11 +22,11 @@ true-not false h = refl
 
 pub control-of : (v : ℕ) → controlTaken v ≡ true → WorkingControl v
 control-of v h =
-    let e = each (controlTests v) h in
+    let e = each (portControlTests v) h in
     record { set = e .0; modeC = not-true _ (e .1 .0); modeA = not-true _ (e .1 .1 .0); modeB = not-true _ (e .1 .1 .1 .0) }
 
 pub control-to : (v : ℕ) → WorkingControl v → controlTaken v ≡ true
-control-to v w = every (controlTests v) (w .set, (true-not _ (w .modeC), (true-not _ (w .modeA), (true-not _ (w .modeB), tt))))
+control-to v w = every (portControlTests v) (w .set, (true-not _ (w .modeC), (true-not _ (w .modeA), (true-not _ (w .modeB), tt))))
 
 pub ports-of : (p : Ports) → isWorkingPorts p ≡ true → WorkingPorts p
 ports-of p h = record { control = control-of (p .control) h }

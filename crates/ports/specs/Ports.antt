@@ -50,11 +50,11 @@ byLine control q input output =
 
 -- ---- the control byte at 15
 -- a byte is accepted where bit 7 is set, and ModeC, ModeA and ModeB are clear
-abbrev pub controlTests : ℕ → List Bool
-controlTests v = bit v 7 ∷ not (bit v 6) ∷ not (bit v 5) ∷ not (bit v 2) ∷ []
+abbrev pub portControlTests : ℕ → List Bool
+portControlTests v = bit v 7 ∷ not (bit v 6) ∷ not (bit v 5) ∷ not (bit v 2) ∷ []
 
 abbrev pub controlTaken : ℕ → Bool
-controlTaken v = all (controlTests v)
+controlTaken v = all (portControlTests v)
 
 -- refusal 7: the byte is not accepted
 abbrev pub portControlRefused : ℕ → Bool

@@ -50,5 +50,5 @@ abbrev pub noFlags : Flags
 noFlags = record { adint = 0; dint = 0; tint = 0 }
 
 -- INTRST clears all three request flags
-abbrev pub cleared : Requests → Requests
-cleared r = withFlags r noFlags
+abbrev pub flagsCleared : Requests → Requests
+flagsCleared r = withFlags r noFlags

@@ -9,7 +9,7 @@ use borrow.Author.Tests.{leb-true, le-leb}
 use Rattle.base.specs.Flags.{flag-le}
 use Rattle.base.specs.Tests.{all, each, every}
 use Rattle.requests.specs.declared.Requests.{Requests}
-use Rattle.requests.specs.Requests.{askedAd, askedLatch, askedTimer, cleared}
+use Rattle.requests.specs.Requests.{askedAd, askedLatch, askedTimer, flagsCleared}
 use Rattle.requests.specs.Registers.{writtenDepth, writtenFifoen, writtenEnables, freshRequests}
 
 pub record WorkingRequests (r : Requests) : Type 0 where
@@ -54,7 +54,7 @@ latch-works r rises w = search (arith, flag-le)
 pub timer-works : (r : Requests) (falls : Bool) → WorkingRequests r → WorkingRequests (askedTimer r falls)
 timer-works r falls w = search (arith, flag-le)
 
-pub cleared-works : (r : Requests) → WorkingRequests r → WorkingRequests (cleared r)
+pub cleared-works : (r : Requests) → WorkingRequests r → WorkingRequests (flagsCleared r)
 cleared-works r w = omega arith
 
 pub depth-works : (r : Requests) (byte : ℕ) → WorkingRequests r → WorkingRequests (writtenDepth r byte)

@@ -1,6 +1,6 @@
 // The settings of requests and the request flags (manual 11.1, 11.2, Base + 6, 7, 8, 9).
 ghost use mathlib.Core.Path.{_≡_};
-ghost use Rattle.requests.specs.Requests.{askedAd, askedLatch, askedTimer, cleared, asking};
+ghost use Rattle.requests.specs.Requests.{askedAd, askedLatch, askedTimer, flagsCleared, asking};
 ghost use Rattle.requests.specs.Registers.{writtenDepth, writtenFifoen, writtenEnables, FIFORST, modeBits, requestBits, freshRequests};
 ghost use Rattle.requests.specs.Working.{isWorkingRequests};
 use converter::channels::Converter;
@@ -66,7 +66,7 @@ pub fn is_asking(flags: Flags) -> bool
 
 // INTRST: the three request flags clear.
 pub fn clear(r: Requests) -> Requests
-    ensures { λ s. ⌜ s ≡ cleared r ⌝ }
+    ensures { λ s. ⌜ s ≡ flagsCleared r ⌝ }
 {
     let flags = Flags {
         adint: 0,

@@ -8,7 +8,7 @@ use lib.ListN.{length, take, drop, length-drop, take-append-drop}
 use lib.Seq.{length-take-le, take-all, take-append-add}
 use Rattle.session_talk.specs.Session.{Talk, talkOf}
 use Rattle.session_talk.specs.declared.Session.{Session}
-use Rattle.session_feed.specs.Feeding.{final, Ran}
+use Rattle.session_feed.specs.Feeding.{final, Feeds}
 use Rattle.session_feed.specs.Pieces.{final-append, takes-some}
 use Rattle.session_feed.specs.declared.Fed.{Fed}
 use Rattle.session.specs.Took.{Took}
@@ -20,11 +20,11 @@ rest piece from = take (length piece - from) (drop from piece)
 rest-length : (piece : List ℕ) (from : ℕ) → length (rest piece from) ≡ length piece - from
 rest-length piece from = length-take-le (length piece - from) (drop from piece) (rw (length-drop from piece) (omega arith))
 
-pub rest-within : {t : Talk} (piece : List ℕ) (from : ℕ) {out memory eeprom out′ : List ℕ} {r : Fed} → Ran t (rest piece from) out memory eeprom out′ r
+pub rest-within : {t : Talk} (piece : List ℕ) (from : ℕ) {out memory eeprom out′ : List ℕ} {r : Fed} → Feeds t (rest piece from) out memory eeprom out′ r
     → from < length piece → from + r .taken ≤ length piece
 rest-within piece from ran h = let w = ran .within in let l = rest-length piece from in omega arith
 
-pub rest-taken : {t : Talk} (piece : List ℕ) (from : ℕ) {out memory eeprom out′ : List ℕ} {r : Fed} → Ran t (rest piece from) out memory eeprom out′ r
+pub rest-taken : {t : Talk} (piece : List ℕ) (from : ℕ) {out memory eeprom out′ : List ℕ} {r : Fed} → Feeds t (rest piece from) out memory eeprom out′ r
     → 64 ≤ length out → from < length piece → 0 < r .taken
 rest-taken piece from ran h k = takes-some ran h (let l = rest-length piece from in omega arith)
 
@@ -43,7 +43,7 @@ unfolding final
 talk-none t = refl
 
 pub talk-more : (t : Talk) (piece : List ℕ) (from : ℕ) {out memory eeprom memory′ eeprom′ out′ : List ℕ} {session : Session} {r : Fed} → from ≤ length piece
-    → talkOf session memory eeprom ≡ final t (take from piece) → Ran (talkOf session memory eeprom) (rest piece from) out memory′ eeprom′ out′ r
+    → talkOf session memory eeprom ≡ final t (take from piece) → Feeds (talkOf session memory eeprom) (rest piece from) out memory′ eeprom′ out′ r
     → talkOf (r .session) memory′ eeprom′ ≡ final t (take (from + r .taken) piece)
 talk-more t piece from {r = r} h before ran =
     ran .talk

@@ -19,7 +19,7 @@ use Rattle.session_reading.specs.declared.Number.{Number}
 use Rattle.session_reading.specs.declared.Number.the-variants.{WriteOffset, ReadOffset, Code, MinusCode}
 use Rattle.session_reading.specs.declared.Reading.{Reading}
 use Rattle.session_reading.specs.declared.Reading.the-variants.{Blank, Letter, Begun, Zero, Digits, Offset, HalfValue, Whole, Single, Spoiled}
-use Rattle.session_commands.specs.Rest.{numbered, started, half, last, meaning, no-number, read-end, read-space, read-first}
+use Rattle.session_commands.specs.Rest.{numbered, firstDigit, half, last, meaning, no-number, read-end, read-space, read-first}
 
 -- more digits only make a number larger
 too-large : (limit n : ℕ) (f : List ℕ) → limit < n → upTo limit (digits n f) ≡ none
@@ -73,7 +73,7 @@ minus-none : (number : Number) (f : List ℕ) (fs : List (List ℕ)) → numbere
 unfolding digitOf
 minus-none number f fs = no-number number fs
 
-read-minus : (number : Number) (f : List ℕ) (fs : List (List ℕ)) → started number (45 ∷ f) fs ≡ meaning (minusTaken number) f fs
+read-minus : (number : Number) (f : List ℕ) (fs : List (List ℕ)) → firstDigit number (45 ∷ f) fs ≡ meaning (minusTaken number) f fs
 unfolding meaning
 read-minus WriteOffset f fs = minus-none WriteOffset f fs
 read-minus ReadOffset f fs = minus-none ReadOffset f fs
@@ -81,24 +81,25 @@ read-minus Code f [] = refl
 read-minus Code f (v ∷ fs) = refl
 read-minus MinusCode f fs = minus-none MinusCode f fs
 
-read-other : (number : Number) (b : ℕ) (f : List ℕ) (fs : List (List ℕ)) → eqb b 45 ≡ false → started number (b ∷ f) fs ≡ numbered number (decimal (b ∷ f)) fs
+read-other : (number : Number) (b : ℕ) (f : List ℕ) (fs : List (List ℕ)) → eqb b 45 ≡ false
+    → firstDigit number (b ∷ f) fs ≡ numbered number (decimal (b ∷ f)) fs
 read-other WriteOffset b f fs e = refl
 read-other ReadOffset b f fs e = refl
 read-other Code b f [] e = rw e
 read-other Code b f (v ∷ fs) e = refl
 read-other MinusCode b f fs e = refl
 
-read-begun : (number : Number) (b : ℕ) (f : List ℕ) (fs : List (List ℕ)) → started number (b ∷ f) fs ≡ meaning (begunTaken number b) f fs
+read-begun : (number : Number) (b : ℕ) (f : List ℕ) (fs : List (List ℕ)) → firstDigit number (b ∷ f) fs ≡ meaning (begunTaken number b) f fs
 read-begun number b f fs = by (eqb b 45) refl
   where
     by : (t : Bool) → eqb b 45 ≡ t
-        → started number (b ∷ f) fs
+        → firstDigit number (b ∷ f) fs
         ≡ meaning
         (if t then minusTaken number
         else if eqb (digitOf b) 0 then Zero number
         else if ltb (digitOf b) 10 then Digits number (digitOf b)
         else Spoiled) f fs
-    by true e = ap (λ (n : ℕ). started number (n ∷ f) fs) (eqb-true b 45 e) ∙ read-minus number f fs
+    by true e = ap (λ (n : ℕ). firstDigit number (n ∷ f) fs) (eqb-true b 45 e) ∙ read-minus number f fs
     by false e = read-other number b f fs e ∙ decimal-first number b f fs
 
 no-value : (offset : ℕ) (fs : List (List ℕ)) → last offset none fs ≡ NoCommand

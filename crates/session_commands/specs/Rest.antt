@@ -33,16 +33,16 @@ numbered MinusCode n [] = endWith (negated (upTo 32768 n))
 numbered MinusCode n (v ∷ fs) = NoCommand
 
 -- a number before its first digit: only a code may have a minus
-abbrev pub started : Number → List ℕ → List (List ℕ) → Command
-started WriteOffset f fs = numbered WriteOffset (decimal f) fs
-started ReadOffset f fs = numbered ReadOffset (decimal f) fs
-started Code f [] = endWith (code f)
-started Code f (v ∷ fs) = NoCommand
-started MinusCode f fs = numbered MinusCode (decimal f) fs
+abbrev pub firstDigit : Number → List ℕ → List (List ℕ) → Command
+firstDigit WriteOffset f fs = numbered WriteOffset (decimal f) fs
+firstDigit ReadOffset f fs = numbered ReadOffset (decimal f) fs
+firstDigit Code f [] = endWith (code f)
+firstDigit Code f (v ∷ fs) = NoCommand
+firstDigit MinusCode f fs = numbered MinusCode (decimal f) fs
 
 abbrev pub lettered : Number → List ℕ → List (List ℕ) → Command
 lettered number [] [] = NoCommand
-lettered number [] (f ∷ fs) = started number f fs
+lettered number [] (f ∷ fs) = firstDigit number f fs
 lettered number (b ∷ l) fs = NoCommand
 
 abbrev pub half : ℕ → List ℕ → FieldNumber
@@ -50,10 +50,10 @@ half high [] = none
 half high (l ∷ []) = if ltb (hexOf l) 16 then some (lowest 4 high * 16 + hexOf l) else none
 half high (l ∷ b ∷ f) = none
 
-abbrev pub ended : Command → List ℕ → List (List ℕ) → Command
-ended c [] [] = c
-ended c [] (f ∷ fs) = NoCommand
-ended c (b ∷ f) fs = NoCommand
+abbrev pub nothingMore : Command → List ℕ → List (List ℕ) → Command
+nothingMore c [] [] = c
+nothingMore c [] (f ∷ fs) = NoCommand
+nothingMore c (b ∷ f) fs = NoCommand
 
 abbrev pub last : ℕ → FieldNumber → List (List ℕ) → Command
 last offset v [] = writeAt (some offset) v
@@ -62,13 +62,13 @@ last offset v (f ∷ fs) = NoCommand
 unfoldable pub meaning : Reading → List ℕ → List (List ℕ) → Command
 meaning Blank f fs = commandIn f fs
 meaning (Letter number) f fs = lettered number f fs
-meaning (Begun number) f fs = started number f fs
+meaning (Begun number) f fs = firstDigit number f fs
 meaning (Zero number) f fs = numbered number (alone f) fs
 meaning (Digits number n) f fs = numbered number (digits n f) fs
 meaning (Offset offset) f fs = last offset (value f) fs
 meaning (HalfValue offset high) f fs = last offset (half high f) fs
-meaning (Whole offset v) f fs = ended (WriteByte offset v) f fs
-meaning Single f fs = ended ReadWord f fs
+meaning (Whole offset v) f fs = nothingMore (WriteByte offset v) f fs
+meaning Single f fs = nothingMore ReadWord f fs
 meaning Spoiled f fs = NoCommand
 
 pub no-number : (number : Number) (fs : List (List ℕ)) → numbered number none fs ≡ NoCommand
@@ -170,7 +170,7 @@ pub record Letters (f : List ℕ) (fs : List (List ℕ)) : Type 0 where
   pub w : commandIn (87 ∷ f) fs ≡ lettered WriteOffset f fs
   pub r : commandIn (82 ∷ f) fs ≡ lettered ReadOffset f fs
   pub c : commandIn (67 ∷ f) fs ≡ lettered Code f fs
-  pub x : commandIn (88 ∷ f) fs ≡ ended ReadWord f fs
+  pub x : commandIn (88 ∷ f) fs ≡ nothingMore ReadWord f fs
 
 letter-laws : (f : List ℕ) (fs : List (List ℕ)) → Letters f fs
 letter-laws [] [] = record { w = refl; r = refl; c = refl; x = refl }

@@ -20,7 +20,7 @@ use Rattle.session_talk.specs.declared.Session.{Session}
 use Rattle.session_line.specs.Done.{lineDone, lineSaid, Done}
 use Rattle.session_line.specs.declared.Answered.{Answered}
 use Rattle.session_line.proofs.Answering.{line-length}
-use Rattle.session_feed.specs.Feeding.{withReading, after, said, final, output, consumed, Advanced, Ran}
+use Rattle.session_feed.specs.Feeding.{withReading, after, said, final, output, consumed, FeedsOn, Feeds}
 use Rattle.session_feed.specs.Pieces.{final-append, output-append}
 use Rattle.session_feed.specs.declared.Fed.{Fed}
 use Rattle.session_feed.proofs.Plain.{final-plain, output-plain, consumed-plain}
@@ -84,7 +84,7 @@ module _ (t : Talk) (piece : List ℕ) (i : ℕ) (f : Line) (found : Found (t .r
 
   pub advanced-line : (out : List ℕ) (at : ℕ) {memory eeprom out′ : List ℕ} {a : Answered} → f .end < length piece → at ≤ length out → 64 ≤ length out - at
       → Done (withReading t (f .reading)) out at memory eeprom out′ a
-      → Advanced t piece i out at memory eeprom out′ (record { session = a .session; at = a .at; taken = f .end + 1 })
+      → FeedsOn t piece i out at memory eeprom out′ (record { session = a .session; at = a .at; taken = f .end + 1 })
   advanced-line out at {a = a} h fits room done =
       let least : i ≤ f .end = found .least in
       let bytes : slice i (f .end + 1) piece ≡ broken (slice i (f .end) piece)
@@ -101,7 +101,7 @@ module _ (t : Talk) (piece : List ℕ) (i : ℕ) (f : Line) (found : Found (t .r
       }
 
   pub advanced-part : (out : List ℕ) (at : ℕ) → i < length piece → length piece ≤ f .end → at ≤ length out
-      → Advanced t piece i out at (t .memory) (t .eeprom) out
+      → FeedsOn t piece i out at (t .memory) (t .eeprom) out
       (record { session = record { board = t .board; reading = f .reading; number = t .number }; at = at; taken = f .end })
   advanced-part out at here h fits =
       let most : f .end ≤ length piece = found .most in
@@ -141,7 +141,7 @@ fed-none session memory eeprom piece out =
 
 pub fed-more : {t : Talk} {piece out₀ memory eeprom out memory′ eeprom′ out′ : List ℕ} {session : Session} {at i : ℕ} {r : Fed}
     → Fed-so t piece out₀ memory eeprom out session at i → 64 ≤ length out - at → length out′ ≡ length out
-    → Advanced (talkOf session memory eeprom) piece i out at memory′ eeprom′ out′ r
+    → FeedsOn (talkOf session memory eeprom) piece i out at memory′ eeprom′ out′ r
     → Fed-so t piece out₀ memory′ eeprom′ out′ (r .session) (r .at) (r .taken)
 fed-more {t} {piece} {out₀} {memory} {eeprom} {out} {session = session} {at} {i} {r} f room kept a =
     let q : Talk = talkOf session memory eeprom in
@@ -189,7 +189,7 @@ unfolding consumed
 nothing-left t room = refl
 
 pub fed-all : {t : Talk} {piece out₀ memory eeprom out : List ℕ} {session : Session} {at i : ℕ} → Fed-so t piece out₀ memory eeprom out session at i
-    → length piece ≤ i → Ran t piece out₀ memory eeprom out (record { session = session; at = at; taken = i })
+    → length piece ≤ i → Feeds t piece out₀ memory eeprom out (record { session = session; at = at; taken = i })
 fed-all {t} {piece} {out₀} {session = session} {at} {i} f h =
     let done : drop i piece ≡ [] = drop-of-length-le piece h in
     let last : consumed (final t (take i piece)) (length out₀ - at) (drop i piece) ≡ 0
@@ -198,7 +198,7 @@ fed-all {t} {piece} {out₀} {session = session} {at} {i} f h =
     record { count = omega arith; within = f .index; talk = f .talk; wrote = f .wrote; fits = f .fits }
 
 pub fed-full : {t : Talk} {piece out₀ memory eeprom out : List ℕ} {session : Session} {at i : ℕ} → Fed-so t piece out₀ memory eeprom out session at i
-    → length out - at < 64 → Ran t piece out₀ memory eeprom out (record { session = session; at = at; taken = i })
+    → length out - at < 64 → Feeds t piece out₀ memory eeprom out (record { session = session; at = at; taken = i })
 fed-full {t} {piece} {out₀} {session = session} {at} {i} f h =
     let same = f .same in
     let last : consumed (final t (take i piece)) (length out₀ - at) (drop i piece) ≡ 0 = none-consumed _ _ _ (omega arith) in

@@ -38,7 +38,7 @@ consumed t room [] = 0
 consumed t room (b ∷ bytes) = if leb 64 room then suc (consumed (after t b) (room - length (said t b)) bytes) else 0
 
 -- ---- what `advance` does: the bytes from i to `taken` are fed
-pub record Advanced (t : Talk) (piece : List ℕ) (i : ℕ) (out : List ℕ) (at : ℕ) (memory eeprom out′ : List ℕ) (r : Fed) : Type 0 where
+pub record FeedsOn (t : Talk) (piece : List ℕ) (i : ℕ) (out : List ℕ) (at : ℕ) (memory eeprom out′ : List ℕ) (r : Fed) : Type 0 where
   pub least : i < r .taken
   pub most : r .taken ≤ length piece
   pub talk : talkOf (r .session) memory eeprom ≡ final t (slice i (r .taken) piece)
@@ -50,7 +50,7 @@ pub record Advanced (t : Talk) (piece : List ℕ) (i : ℕ) (out : List ℕ) (at
       + consumed (final t (slice i (r .taken) piece)) (room - length (output t (slice i (r .taken) piece))) rest
 
 -- ---- what `feed` does: the bytes that are taken, the session after them, and at the start of `out` what they print
-pub record Ran (t : Talk) (piece out : List ℕ) (memory eeprom out′ : List ℕ) (r : Fed) : Type 0 where
+pub record Feeds (t : Talk) (piece out : List ℕ) (memory eeprom out′ : List ℕ) (r : Fed) : Type 0 where
   pub count : r .taken ≡ consumed t (length out) piece
   pub within : r .taken ≤ length piece
   pub talk : talkOf (r .session) memory eeprom ≡ final t (take (r .taken) piece)

@@ -17,7 +17,7 @@ use Rattle.session_reading.proofs.Scanning.{read-more}
 use Rattle.session_commands.specs.Ends.{commandRead, isBegun}
 use Rattle.session_reading.specs.declared.Reading.{Reading}
 use Rattle.session_reading.specs.declared.Reading.the-variants.{Blank}
-use Rattle.session_talk.specs.Session.{Talk, counted}
+use Rattle.session_talk.specs.Session.{Talk, nextNumber}
 use Rattle.session_talk.specs.Wanted.{wantedBy}
 use Rattle.session_line.specs.Done.{doneBy, saidBy, lineDone, lineSaid}
 use Rattle.session_feed.specs.Feeding.{withReading, after, said, final, output}
@@ -35,8 +35,8 @@ textLines [] = []
 textLines (b ∷ text) = if eqb b 10 then [] ∷ textLines text else begunWith b (textLines text)
 
 -- ---- a line by its fields: the session after it, and what it prints
-unfoldable pub answered : Talk → List ℕ → Talk
-answered t line = doneBy t (wantedBy (commandOf line))
+unfoldable pub afterLine : Talk → List ℕ → Talk
+afterLine t line = doneBy t (wantedBy (commandOf line))
 
 unfoldable pub answer : Talk → List ℕ → List ℕ
 answer t line = saidBy t (wantedBy (commandOf line))
@@ -44,30 +44,30 @@ answer t line = saidBy t (wantedBy (commandOf line))
 -- what the lines print, one after the other
 unfoldable pub conversation : Talk → List (List ℕ) → List ℕ
 conversation t [] = []
-conversation t (line ∷ lines) = answer t line ++ conversation (answered t line) lines
+conversation t (line ∷ lines) = answer t line ++ conversation (afterLine t line) lines
 
 -- what is printed once the input has ended: a line that has begun is ended
-unfoldable pub ending : Talk → List ℕ
-ending t = if isBegun (t .reading) then output t (10 ∷ []) else []
+unfoldable pub endText : Talk → List ℕ
+endText t = if isBegun (t .reading) then output t (10 ∷ []) else []
 
 unfoldable pub sessionText : Talk → List ℕ → List ℕ
-sessionText t text = output t text ++ ending (final t text)
+sessionText t text = output t text ++ endText (final t text)
 
 -- ---- a text byte after byte
 text-newline : (t : Talk) (text : List ℕ) → sessionText t (10 ∷ text) ≡ lineSaid t ++ sessionText (lineDone t) text
 unfolding sessionText output final after said
-text-newline t text = append-assoc (lineSaid t) (output (lineDone t) text) (ending (final (lineDone t) text))
+text-newline t text = append-assoc (lineSaid t) (output (lineDone t) text) (endText (final (lineDone t) text))
 
 text-other : (t : Talk) (b : ℕ) (text : List ℕ) → eqb b 10 ≡ false → sessionText t (b ∷ text) ≡ sessionText (withReading t (taken (t .reading) b)) text
 unfolding sessionText output final after said
 text-other t b text e = rw e
 
 text-end : (t : Talk) → isBegun (t .reading) ≡ true → sessionText t [] ≡ lineSaid t
-unfolding sessionText output final ending after said
+unfolding sessionText output final endText after said
 text-end t h = rw h (append-nil (lineSaid t))
 
 text-none : (t : Talk) → isBegun (t .reading) ≡ false → sessionText t [] ≡ []
-unfolding sessionText output final ending
+unfolding sessionText output final endText
 text-none t h = rw h
 
 -- ---- a line of which the bytes p were read
@@ -105,7 +105,7 @@ said-any t r Nothing = refl
 said-any t r (Happen event) = refl
 
 same-talk : (t : Talk) (r : Reading) (lines : List (List ℕ)) → conversation (withReading t r) lines ≡ conversation t lines
-unfolding conversation answer answered
+unfolding conversation answer afterLine
 same-talk t r [] = refl
 same-talk t r (line ∷ lines) = rw (done-any t r (wantedBy (commandOf line)), said-any t r (wantedBy (commandOf line)))
 
@@ -113,8 +113,8 @@ line-said : (t : Talk) (p : List ℕ) → t .reading ≡ readFrom Blank p → li
 unfolding lineSaid answer
 line-said t p h = ap (λ (r : Reading). saidBy t (wantedBy (commandRead r))) h ∙ ap (λ c. saidBy t (wantedBy c)) (read-line p)
 
-line-done : (t : Talk) (p : List ℕ) → t .reading ≡ readFrom Blank p → lineDone t ≡ answered t p
-unfolding lineDone answered
+line-done : (t : Talk) (p : List ℕ) → t .reading ≡ readFrom Blank p → lineDone t ≡ afterLine t p
+unfolding lineDone afterLine
 line-done t p h = ap (λ (r : Reading). doneBy t (wantedBy (commandRead r))) h ∙ ap (λ c. doneBy t (wantedBy c)) (read-line p)
 
 one-line : (t : Talk) (line : List ℕ) → conversation t (line ∷ []) ≡ answer t line
@@ -180,26 +180,26 @@ by-lines t text h = from-here t [] text h ∙ ap (conversation t) (joined-none (
 
 -- and so it is however the text was cut into pieces
 pub by-pieces : (t : Talk) (pieces : List (List ℕ)) → t .reading ≡ Blank
-    → printed t pieces ++ ending (final t (whole pieces)) ≡ conversation t (textLines (whole pieces))
+    → printed t pieces ++ endText (final t (whole pieces)) ≡ conversation t (textLines (whole pieces))
 unfolding sessionText
-by-pieces t pieces h = ap (λ (l : List ℕ). l ++ ending (final t (whole pieces))) (pieces-same t pieces) ∙ by-lines t (whole pieces) h
+by-pieces t pieces h = ap (λ (l : List ℕ). l ++ endText (final t (whole pieces))) (pieces-same t pieces) ∙ by-lines t (whole pieces) h
 
 -- ---- line numbers are exact below 2^64
 unfoldable pub afterLines : Talk → List (List ℕ) → Talk
 afterLines t [] = t
-afterLines t (line ∷ lines) = afterLines (answered t line) lines
+afterLines t (line ∷ lines) = afterLines (afterLine t line) lines
 
-done-number : (t : Talk) (a : Wanted) → doneBy t a .number ≡ counted (t .number)
+done-number : (t : Talk) (a : Wanted) → doneBy t a .number ≡ nextNumber (t .number)
 done-number t Nothing = refl
 done-number t (Happen event) = refl
 
-answered-number : (t : Talk) (line : List ℕ) → t .number + 1 < 2 ^ 64 → answered t line .number ≡ t .number + 1
-unfolding answered
+answered-number : (t : Talk) (line : List ℕ) → t .number + 1 < 2 ^ 64 → afterLine t line .number ≡ t .number + 1
+unfolding afterLine
 answered-number t line h = done-number t (wantedBy (commandOf line)) ∙ mod-eq-of-lt h
 
 pub exact-number : (t : Talk) (lines : List (List ℕ)) → t .number + length lines < 2 ^ 64 → afterLines t lines .number ≡ t .number + length lines
 unfolding afterLines
 exact-number t [] h = omega arith
 exact-number t (line ∷ lines) h =
-    let n : answered t line .number ≡ t .number + 1 = answered-number t line (omega arith) in
-    exact-number (answered t line) lines (omega arith) ∙ omega arith
+    let n : afterLine t line .number ≡ t .number + 1 = answered-number t line (omega arith) in
+    exact-number (afterLine t line) lines (omega arith) ∙ omega arith

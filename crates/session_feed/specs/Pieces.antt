@@ -6,7 +6,7 @@ use native.Mathlib.Omega.{arith}
 use borrow.Author.Tests.{le-leb}
 use lib.ListN.{length}
 use Rattle.session_talk.specs.Session.{Talk}
-use Rattle.session_feed.specs.Feeding.{after, said, final, output, consumed, Ran}
+use Rattle.session_feed.specs.Feeding.{after, said, final, output, consumed, Feeds}
 use Rattle.session_feed.specs.declared.Fed.{Fed}
 
 pub final-append : (t : Talk) (a b : List ℕ) → final t (a ++ b) ≡ final (final t a) b
@@ -49,6 +49,6 @@ unfolding consumed
 takes-one t room [] h k = absurd (omega arith)
 takes-one t room (b ∷ piece) h k = rw (le-leb 64 room h) (omega arith)
 
-pub takes-some : {t : Talk} {piece out memory eeprom out′ : List ℕ} {r : Fed} → Ran t piece out memory eeprom out′ r → 64 ≤ length out → 0 < length piece
+pub takes-some : {t : Talk} {piece out memory eeprom out′ : List ℕ} {r : Fed} → Feeds t piece out memory eeprom out′ r → 64 ≤ length out → 0 < length piece
     → 0 < r .taken
 takes-some {t} {piece} {out} ran h k = let c = ran .count in let o = takes-one t (length out) piece h k in omega arith

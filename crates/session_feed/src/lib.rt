@@ -3,7 +3,7 @@
 ghost use Prim.Native.Nat.{_<_, _≤_, _-_};
 ghost use lib.ListN.{length};
 ghost use Rattle.session_talk.specs.Session.{talkOf};
-ghost use Rattle.session_feed.specs.Feeding.{Advanced, Ran};
+ghost use Rattle.session_feed.specs.Feeding.{FeedsOn, Feeds};
 pub use session_talk::Session;
 pub use session_talk::begin;
 pub use session_talk::is_begun;
@@ -26,7 +26,7 @@ fn advance(
     at: usize,
 ) -> Fed
     requires { ⌜ (i < length (now piece)) × (at ≤ length (now out)) × (64 ≤ length (now out) - at) ⌝ }
-    ensures { λ r. ⌜ Advanced (talkOf session (now (memory .entry)) (now (eeprom .entry))) (now (piece .entry)) i (now (out .entry)) at (now (memory .exit))
+    ensures { λ r. ⌜ FeedsOn (talkOf session (now (memory .entry)) (now (eeprom .entry))) (now (piece .entry)) i (now (out .entry)) at (now (memory .exit))
         (now (eeprom .exit)) (now (out .exit)) r ⌝ }
 {
     let reading = session.reading;
@@ -64,7 +64,7 @@ pub fn feed(
     eeprom: &mut [u8],
     out: &mut [u8],
 ) -> Fed
-    ensures { λ r. ⌜ Ran (talkOf session (now (memory .entry)) (now (eeprom .entry))) (now (piece .entry)) (now (out .entry)) (now (memory .exit))
+    ensures { λ r. ⌜ Feeds (talkOf session (now (memory .entry)) (now (eeprom .entry))) (now (piece .entry)) (now (out .entry)) (now (memory .exit))
         (now (eeprom .exit)) (now (out .exit)) r ⌝ }
 {
     let mut session = session;

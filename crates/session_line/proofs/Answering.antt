@@ -15,7 +15,7 @@ use Rattle.session_text.proofs.Writing.{wrote-as}
 use Rattle.requests.specs.Requests.{asking}
 use Rattle.session_answers.specs.Answers.{eventText}
 use Rattle.session_answers.proofs.Lengths.{event-length, bad-length}
-use Rattle.session_talk.specs.Session.{Talk, talkOf, counted}
+use Rattle.session_talk.specs.Session.{Talk, talkOf, nextNumber}
 use Rattle.session_talk.specs.Wanted.{wantedBy}
 use Rattle.session_line.specs.Done.{raised, saidBy, lineDone, lineSaid, Happened, NotCommanded, Done}
 use Rattle.session_talk.specs.declared.Wanted.{Wanted}
@@ -47,14 +47,14 @@ happened b number event memory₀ eeprom₀ {o = o} oe me ee was is w =
 
 -- a line that asks for an event
 pub line-event : (t : Talk) {event : Event} {number : ℕ} {out out′ memory eeprom : List ℕ} {at : ℕ} {r : Answered}
-    → number ≡ counted (t .number) → wantedBy (commandRead (t .reading)) ≡ Happen event
+    → number ≡ nextNumber (t .number) → wantedBy (commandRead (t .reading)) ≡ Happen event
     → Happened (t .board) number event (t .memory) (t .eeprom) out at memory eeprom out′ r → Done t out at memory eeprom out′ r
 unfolding lineDone lineSaid
 line-event t {event} {out = out} {out′} {memory} {eeprom} {at} {r} n asked h = rw (asked, ← n) h
 
 -- a line that asks for nothing
 pub line-bad : (t : Talk) {number : ℕ} {out out′ : List ℕ} {at : ℕ} {r : Answered}
-    → number ≡ counted (t .number) → wantedBy (commandRead (t .reading)) ≡ Nothing
+    → number ≡ nextNumber (t .number) → wantedBy (commandRead (t .reading)) ≡ Nothing
     → NotCommanded (t .board) number out at out′ r → Done t out at (t .memory) (t .eeprom) out′ r
 unfolding lineDone lineSaid
 line-bad t {out = out} {out′} {at} {r} n asked h =

@@ -14,7 +14,7 @@ use Rattle.session_answers.specs.Answers.{eventText, badText}
 use Rattle.session_talk.specs.Wanted.{wantedBy}
 use Rattle.session_talk.specs.declared.Wanted.{Wanted}
 use Rattle.session_talk.specs.declared.Wanted.the-variants.{Nothing, Happen}
-use Rattle.session_talk.specs.Session.{Talk, talkOf, counted}
+use Rattle.session_talk.specs.Session.{Talk, talkOf, nextNumber}
 use Rattle.session_line.specs.declared.Answered.{Answered}
 
 -- the flags go from none to some
@@ -22,19 +22,19 @@ abbrev pub raised : Board → Board → Bool
 raised before after = not (asking (before .requests .flags)) && asking (after .requests .flags)
 
 abbrev pub doneBy : Talk → Wanted → Talk
-doneBy t Nothing = record { board = t .board; memory = t .memory; eeprom = t .eeprom; number = counted (t .number); reading = Blank }
+doneBy t Nothing = record { board = t .board; memory = t .memory; eeprom = t .eeprom; number = nextNumber (t .number); reading = Blank }
 doneBy t (Happen event) = record {
   board = stepOf (t .board) (t .memory) (t .eeprom) event .board;
   memory = memoryAfter (t .board) (t .memory) (t .eeprom) event;
   eeprom = eepromAfter (t .board) (t .memory) (t .eeprom) event;
-  number = counted (t .number);
+  number = nextNumber (t .number);
   reading = Blank;
 }
 
 abbrev pub saidBy : Talk → Wanted → List ℕ
-saidBy t Nothing = badText (counted (t .number))
+saidBy t Nothing = badText (nextNumber (t .number))
 saidBy t (Happen event) =
-    eventText (counted (t .number)) (stepOf (t .board) (t .memory) (t .eeprom) event .answer)
+    eventText (nextNumber (t .number)) (stepOf (t .board) (t .memory) (t .eeprom) event .answer)
     (raised (t .board) (stepOf (t .board) (t .memory) (t .eeprom) event .board))
 
 -- the line that was read is answered
@@ -45,13 +45,13 @@ unfoldable pub lineSaid : Talk → List ℕ
 lineSaid t = saidBy t (wantedBy (commandRead (t .reading)))
 
 -- what answering leaves: the session, both memories, and the text at `at` of `out`
-pub record Answers (t : Talk) (text out : List ℕ) (at : ℕ) (memory eeprom out′ : List ℕ) (r : Answered) : Type 0 where
+pub record AnswersLine (t : Talk) (text out : List ℕ) (at : ℕ) (memory eeprom out′ : List ℕ) (r : Answered) : Type 0 where
   pub talk : talkOf (r .session) memory eeprom ≡ t
   pub wrote : Wrote text out at out′ (r .at)
 
 abbrev pub Happened : Board → ℕ → Event → List ℕ → List ℕ → List ℕ → ℕ → List ℕ → List ℕ → List ℕ → Answered → Type 0
 Happened board number event memory₀ eeprom₀ out at memory eeprom out′ r =
-    Answers
+    AnswersLine
     (record {
       board = stepOf board memory₀ eeprom₀ event .board;
       memory = memoryAfter board memory₀ eeprom₀ event;
@@ -68,4 +68,4 @@ pub record NotCommanded (board : Board) (number : ℕ) (out : List ℕ) (at : �
   pub wrote : Wrote (badText number) out at out′ (r .at)
 
 abbrev pub Done : Talk → List ℕ → ℕ → List ℕ → List ℕ → List ℕ → Answered → Type 0
-Done t out at memory eeprom out′ r = Answers (lineDone t) (lineSaid t) out at memory eeprom out′ r
+Done t out at memory eeprom out′ r = AnswersLine (lineDone t) (lineSaid t) out at memory eeprom out′ r

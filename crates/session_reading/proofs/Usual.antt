@@ -12,7 +12,7 @@ use Rattle.base.specs.Laws.{never, both}
 use Rattle.session_digits.specs.Digits.{digitOf, hexOf}
 use Rattle.session_reading.specs.Reading.{taken}
 use Rattle.session_reading.specs.Found.{Scanned, Found}
-use Rattle.session_reading.specs.Whole.{isBlank, numberOf, soFar, Numbered}
+use Rattle.session_reading.specs.Whole.{isBlank, numberAfter, soFar, DigitsRead}
 use Rattle.session_reading.specs.declared.Line.{Line}
 use Rattle.session_reading.specs.declared.whole.Numeral.{Numeral}
 use Rattle.session_reading.specs.declared.Number.{Number}
@@ -40,8 +40,8 @@ pub blank-found : {reading : Reading} {t : Bool} {piece : List ℕ} {from : ℕ}
 blank-found {reading} e h f = found-as (blank-of reading (sym e ∙ h)) f
 
 -- ---- the letter
-letter-taken : (b : ℕ) → eqb b 87 || eqb b 82 || eqb b 67 ≡ true → Letter (numberOf b) ≡ taken Blank b
-unfolding taken numberOf
+letter-taken : (b : ℕ) → eqb b 87 || eqb b 82 || eqb b 67 ≡ true → Letter (numberAfter b) ≡ taken Blank b
+unfolding taken numberAfter
 letter-taken b h = by (eqb b 87) (eqb b 82) (eqb b 67) h
   where
     by : (w r c : Bool) → w || r || c ≡ true
@@ -52,7 +52,7 @@ letter-taken b h = by (eqb b 87) (eqb b 82) (eqb b 67) h
     by false false true h = refl
     by false false false h = never h
 
-pub letter-found : {piece : List ℕ} {from : ℕ} {line : Line} → Found (Letter (numberOf (getD piece from 0))) piece (from + 1) line → from < length piece
+pub letter-found : {piece : List ℕ} {from : ℕ} {line : Line} → Found (Letter (numberAfter (getD piece from 0))) piece (from + 1) line → from < length piece
     → eqb (getD piece from 0) 87 || eqb (getD piece from 0) 82 || eqb (getD piece from 0) 67 ≡ true → Found Blank piece from line
 letter-found {piece = piece} {from} f h t = found-next h (λ k. let z : false ≡ true = rw k at t in never z) (letter-taken (getD piece from 0) t) f
 
@@ -104,20 +104,20 @@ growing-more {first} {piece} {from} {n} {i} {d} g h e k l =
           (ap (λ (x : ℕ). Digits number (n * 10 + x)) e ∙ digit-taken number n (getD piece i 0) digit fits);
     }
 
-pub numbered-none : (piece : List ℕ) (from : ℕ) {first : ℕ} → first ≡ 0 → from ≤ length piece → Numbered first piece from (record { n = 0; at = from })
+pub numbered-none : (piece : List ℕ) (from : ℕ) {first : ℕ} → first ≡ 0 → from ≤ length piece → DigitsRead first piece from (record { n = 0; at = from })
 numbered-none piece from e l = record { digits = λ number. rw e (scanned-none (soFar number 0) piece from l) }
 
 pub numbered : {first : ℕ} {piece : List ℕ} {from n i : ℕ} → (first ≡ 0 → ⊥) → Growing first piece from n i
-    → Numbered first piece from (record { n = n; at = i })
+    → DigitsRead first piece from (record { n = n; at = i })
 unfolding soFar
 numbered {first} {n = n} h g =
     record { digits = λ number. rw (ne-eqb first 0 h, ne-eqb n 0 (λ z. let a : 1 ≤ n = g .above in omega arith)) (g .digits number) }
 
-pub number-most : {d : ℕ} {piece : List ℕ} {from : ℕ} {numeral : Numeral} → Numbered d piece from numeral → numeral .at ≤ length piece
+pub number-most : {d : ℕ} {piece : List ℕ} {from : ℕ} {numeral : Numeral} → DigitsRead d piece from numeral → numeral .at ≤ length piece
 number-most s = s .digits Code .most
 
 pub number-found : {number : Number} {d : ℕ} {piece : List ℕ} {from : ℕ} {numeral : Numeral} {line : Line}
-    → Numbered d piece (from + 1) numeral → Found (soFar number (numeral .n)) piece (numeral .at) line → from < length piece
+    → DigitsRead d piece (from + 1) numeral → Found (soFar number (numeral .n)) piece (numeral .at) line → from < length piece
     → d ≡ digitOf (getD piece from 0) → d < 10 → Found (Begun number) piece from line
 number-found {number} {d} {piece} {from} s f h e k =
     let digit : digitOf (getD piece from 0) ≤ 9 = omega (arith, e) in
@@ -133,8 +133,8 @@ offset-taken n h = by (eqb n 0) refl
     by true e = ap Offset (eqb-true n 0 e)
     by false e = rw (le-leb n 99 h)
 
-write-letter : (letter : ℕ) → letter ≡ 87 → WriteOffset ≡ numberOf letter
-unfolding numberOf
+write-letter : (letter : ℕ) → letter ≡ 87 → WriteOffset ≡ numberAfter letter
+unfolding numberAfter
 write-letter letter e = rw (eq-eqb letter 87 e)
 
 pub offset-small : (b n letter : ℕ) → (eqb b 32 && leb n 99) && eqb letter 87 ≡ true → (b ≡ 32) × (n ≤ 99) × (letter ≡ 87)
@@ -144,11 +144,11 @@ offset-small b n letter t =
     (eqb-true b 32 (q .0), leb-true n 99 (q .1), eqb-true letter 87 (p .1))
 
 pub offset-found : (letter : ℕ) {n : ℕ} {piece : List ℕ} {from : ℕ} {line : Line} → Found (Offset n) piece (from + 1) line
-    → from < length piece → (eqb (getD piece from 0) 32 && leb n 99) && eqb letter 87 ≡ true → Found (soFar (numberOf letter) n) piece from line
+    → from < length piece → (eqb (getD piece from 0) 32 && leb n 99) && eqb letter 87 ≡ true → Found (soFar (numberAfter letter) n) piece from line
 offset-found letter {n} {piece} {from} f h t =
     let p = offset-small (getD piece from 0) n letter t in
     let space : getD piece from 0 ≡ 32 = p .0 in
-    let number : WriteOffset ≡ numberOf letter = write-letter letter (p .2) in
+    let number : WriteOffset ≡ numberAfter letter = write-letter letter (p .2) in
     found-as (ap (λ (x : Number). soFar x n) number)
     (found-next h (λ k. let z : _≡_ {A = ℕ} 32 10 = sym space ∙ k in omega arith)
     (offset-taken n (p .1) ∙ sym (ap (taken (soFar WriteOffset n)) space)) f)

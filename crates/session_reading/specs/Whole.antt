@@ -25,13 +25,13 @@ isBlank Single = false
 isBlank Spoiled = false
 
 -- the number that follows the letter W (87), R (82) or else C
-unfoldable pub numberOf : ℕ → Number
-numberOf letter = if eqb letter 87 then WriteOffset else if eqb letter 82 then ReadOffset else Code
+unfoldable pub numberAfter : ℕ → Number
+numberAfter letter = if eqb letter 87 then WriteOffset else if eqb letter 82 then ReadOffset else Code
 
 -- a line whose number so far is n
 unfoldable pub soFar : Number → ℕ → Reading
 soFar number n = if eqb n 0 then Zero number else Digits number n
 
 -- ---- what `more_digits` gives: the digits after the first one are read, whatever the number is of
-pub record Numbered (first : ℕ) (piece : List ℕ) (from : ℕ) (r : Numeral) : Type 0 where
+pub record DigitsRead (first : ℕ) (piece : List ℕ) (from : ℕ) (r : Numeral) : Type 0 where
   pub digits : (number : Number) → Scanned (soFar number first) piece from (soFar number (r .n)) (r .at)

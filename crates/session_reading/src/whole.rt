@@ -9,7 +9,7 @@ ghost use Prim.Native.Nat.{_≤_};
 ghost use lib.ListN.{length};
 ghost use Rattle.session_reading.specs.declared.Reading.the-variants.{Blank, Letter, Begun, Offset};
 ghost use Rattle.session_reading.specs.Found.{Found};
-ghost use Rattle.session_reading.specs.Whole.{numberOf, soFar, Numbered};
+ghost use Rattle.session_reading.specs.Whole.{numberAfter, soFar, DigitsRead};
 
 // A number, and the place after its digits.
 struct Numeral {
@@ -37,7 +37,7 @@ fn read_value(offset: u8, piece: &[u8], from: usize) -> Line
 
 // The number that follows W, R or C.
 fn number_of(letter: u8) -> Number
-    ensures { λ r. ⌜ r ≡ numberOf letter ⌝ }
+    ensures { λ r. ⌜ r ≡ numberAfter letter ⌝ }
 {
     if letter == b'W' {
         Number::WriteOffset
@@ -50,7 +50,7 @@ fn number_of(letter: u8) -> Number
 
 // What a line is whose number so far is n.
 fn reading_of(letter: u8, n: u16) -> Reading
-    ensures { λ r. ⌜ r ≡ soFar (numberOf letter) n ⌝ }
+    ensures { λ r. ⌜ r ≡ soFar (numberAfter letter) n ⌝ }
 {
     let number = number_of(letter);
     if n == 0 {
@@ -63,7 +63,7 @@ fn reading_of(letter: u8, n: u16) -> Reading
 // After the number n: a newline, or a space and the value of W.
 fn read_end(letter: u8, n: u16, piece: &[u8], from: usize) -> Line
     requires { ⌜ from ≤ length (now piece) ⌝ }
-    ensures { λ r. ⌜ Found (soFar (numberOf letter) n) (now (piece .entry)) from r ⌝ }
+    ensures { λ r. ⌜ Found (soFar (numberAfter letter) n) (now (piece .entry)) from r ⌝ }
 {
     if from < piece.len() {
         let byte = piece[from];
@@ -83,7 +83,7 @@ fn read_end(letter: u8, n: u16, piece: &[u8], from: usize) -> Line
 // The digits after a first one, as far as the number stays within 16 bits; none after a first 0.
 fn more_digits(first: u8, piece: &[u8], from: usize) -> Numeral
     requires { ⌜ from ≤ length (now piece) ⌝ }
-    ensures { λ r. ⌜ Numbered first (now (piece .entry)) from r ⌝ }
+    ensures { λ r. ⌜ DigitsRead first (now (piece .entry)) from r ⌝ }
 {
     if first == 0 {
         return Numeral { n: 0, at: from };
@@ -108,7 +108,7 @@ fn more_digits(first: u8, piece: &[u8], from: usize) -> Numeral
 // After a letter and its space: the number, and what follows it.
 fn read_begun(letter: u8, piece: &[u8], from: usize) -> Line
     requires { ⌜ from ≤ length (now piece) ⌝ }
-    ensures { λ r. ⌜ Found (Begun (numberOf letter)) (now (piece .entry)) from r ⌝ }
+    ensures { λ r. ⌜ Found (Begun (numberAfter letter)) (now (piece .entry)) from r ⌝ }
 {
     if from < piece.len() {
         let digit = session_digits::digit_of(piece[from]);
@@ -123,7 +123,7 @@ fn read_begun(letter: u8, piece: &[u8], from: usize) -> Line
 // After a letter: a space.
 fn read_letter(letter: u8, piece: &[u8], from: usize) -> Line
     requires { ⌜ from ≤ length (now piece) ⌝ }
-    ensures { λ r. ⌜ Found (Letter (numberOf letter)) (now (piece .entry)) from r ⌝ }
+    ensures { λ r. ⌜ Found (Letter (numberAfter letter)) (now (piece .entry)) from r ⌝ }
 {
     if from < piece.len() {
         if piece[from] == b' ' {

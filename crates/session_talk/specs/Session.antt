@@ -21,12 +21,12 @@ pub record Talk : Type 0 where
 abbrev pub talkOf : Session → List ℕ → List ℕ → Talk
 talkOf s memory eeprom = record { board = s .board; memory = memory; eeprom = eeprom; number = s .number; reading = s .reading }
 
-abbrev pub beginning : Session
-beginning = record { board = freshBoard A false; reading = Blank; number = 0 }
+abbrev pub freshSession : Session
+freshSession = record { board = freshBoard A false; reading = Blank; number = 0 }
 
-abbrev pub begun : Session → Bool
-begun s = isBegun (s .reading)
+abbrev pub lineBegun : Session → Bool
+lineBegun s = isBegun (s .reading)
 
 -- line numbers count from 1, modulo 2^64
-abbrev pub counted : ℕ → ℕ
-counted number = (number + 1) % 2 ^ 64
+abbrev pub nextNumber : ℕ → ℕ
+nextNumber number = (number + 1) % 2 ^ 64

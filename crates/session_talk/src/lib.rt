@@ -1,6 +1,6 @@
 // A session's record: how it begins, and whether a line of it has begun; and what a command of a line wants of the board.
 ghost use mathlib.Core.Path.{_≡_};
-ghost use Rattle.session_talk.specs.Session.{beginning, begun};
+ghost use Rattle.session_talk.specs.Session.{freshSession, lineBegun};
 ghost use Rattle.session_talk.specs.Wanted.{wantedBy};
 use board_events::Event;
 use machine::Board;
@@ -22,7 +22,7 @@ pub enum Wanted {
 
 // A session with a fresh board, jumpers A, mid-scale, before its first line.
 pub fn begin() -> Session
-    ensures { λ r. ⌜ r ≡ beginning ⌝ }
+    ensures { λ r. ⌜ r ≡ freshSession ⌝ }
 {
     Session {
         board: machine::fresh(machine::Jumpers::A, false),
@@ -33,7 +33,7 @@ pub fn begin() -> Session
 
 // Whether a line has begun that no newline has ended.
 pub fn is_begun(session: Session) -> bool
-    ensures { λ r. ⌜ r ≡ begun session ⌝ }
+    ensures { λ r. ⌜ r ≡ lineBegun session ⌝ }
 {
     let reading = session.reading;
     session_commands::is_begun(reading)

@@ -6,7 +6,7 @@ use counter::Counter;
 ghost use mathlib.Core.Path.{_≡_};
 ghost use Rattle.counter_one.specs.Falls.{fell};
 ghost use Rattle.timer.specs.Timer.{unprogrammedTimer, counterOf, gateOf, out, put, cascaded, moved, clocked, clockedIf, gatesMove, gatesMoved};
-ghost use Rattle.timer.specs.Working.{flagsWork, controlsWork, isWorkingTimer};
+ghost use Rattle.timer.specs.Working.{timerFlagsWork, controlsWork, isWorkingTimer};
 
 #[repr(C)]
 pub struct Timer {
@@ -159,7 +159,7 @@ pub fn move_gates(t: Timer, was: Gates, is: Gates) -> Timer
 
 // Whether every flag of the three counters is 0 or 1.
 pub fn flags_work(t: Timer) -> bool
-    ensures { λ r. ⌜ r ≡ flagsWork t ⌝ }
+    ensures { λ r. ⌜ r ≡ timerFlagsWork t ⌝ }
 {
     counter::flags_work(t.counter0)
         & counter::flags_work(t.counter1)

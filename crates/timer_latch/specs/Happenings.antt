@@ -8,8 +8,8 @@ use Rattle.base.specs.Fields.{field}
 use Rattle.counter_modes.specs.Control.{command, setupOf}
 use Rattle.counter_modes.specs.declared.Mode.{Mode}
 use Rattle.counter_modes.specs.declared.Format.the-variants.{TwoBytes}
-use Rattle.counter_modes.specs.declared.Command.{Command}
-use Rattle.counter_modes.specs.declared.Command.the-variants.{LatchCount, Program, NotModelled}
+use Rattle.counter_modes.specs.declared.ControlCommand.{ControlCommand}
+use Rattle.counter_modes.specs.declared.ControlCommand.the-variants.{LatchCount, Program, NotModelled}
 use Rattle.counter_modes.specs.declared.Setup.the-variants.{Programmed}
 use Rattle.counter_one.specs.declared.Counter.{Counter}
 use Rattle.timer.specs.Timer.{clocked, gatesMoved}
@@ -66,7 +66,7 @@ sameCounter Counter2 Counter0 = false
 sameCounter Counter2 Counter1 = false
 sameCounter Counter2 Counter2 = true
 
-abbrev pub programs : Command → Bool
+abbrev pub programs : ControlCommand → Bool
 programs LatchCount = false
 programs (Program f m) = true
 programs NotModelled = false

@@ -8,7 +8,7 @@ use mathlib.Core.List.{List, _∷_, _++_}
 use Rattle.counter_modes.specs.Control.{command}
 use Rattle.counter_modes.specs.declared.Mode.{Mode}
 use Rattle.counter_modes.specs.declared.Format.the-variants.{TwoBytes}
-use Rattle.counter_modes.specs.declared.Command.the-variants.{Program}
+use Rattle.counter_modes.specs.declared.ControlCommand.the-variants.{Program}
 use Rattle.counter_one.specs.Counter.{commanded}
 use Rattle.counter_one.specs.Kept.{setup-programmed}
 use Rattle.counter_one.specs.declared.Counter.{Counter}

@@ -11,8 +11,8 @@ use Rattle.base.specs.Laws.{by-choice, never, both, not-true, under-and}
 use Rattle.counter_modes.specs.Control.{command, setupOf, wordRefused}
 use Rattle.counter_modes.specs.declared.Mode.{Mode}
 use Rattle.counter_modes.specs.declared.Format.the-variants.{TwoBytes}
-use Rattle.counter_modes.specs.declared.Command.{Command}
-use Rattle.counter_modes.specs.declared.Command.the-variants.{LatchCount, Program, NotModelled}
+use Rattle.counter_modes.specs.declared.ControlCommand.{ControlCommand}
+use Rattle.counter_modes.specs.declared.ControlCommand.the-variants.{LatchCount, Program, NotModelled}
 use Rattle.counter_modes.specs.declared.Setup.the-variants.{Programmed}
 use Rattle.counter_bytes.specs.Bytes.{pieceOf}
 use Rattle.counter_bytes.specs.declared.Piece.{Piece}
@@ -72,7 +72,7 @@ module _ {m : Mode} {v : ℕ} {half : Bool} where
   unfolding commanded
   commanded-held c w e h = go (command w) e
     where
-      go : (o : Command) → programs o ≡ false → LatchHeld m v half (commandedBy o c w)
+      go : (o : ControlCommand) → programs o ≡ false → LatchHeld m v half (commandedBy o c w)
       go LatchCount e = rw (h .set) (same-held c (latchedAs (Programmed TwoBytes m) c) refl (rw (h .latched)) h)
       go (Program f n) e = never (sym e)
       go NotModelled e = h

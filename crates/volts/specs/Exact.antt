@@ -15,9 +15,9 @@ use lib.Ieee.Exact.{HasValue}
 use lib.Ieee.Scale.{round-same}
 use Rattle.base.specs.Tests.{all, Each, each}
 use Rattle.volts.specs.declared.Voltage.the-variants.{Volts}
-use Rattle.volts.specs.Table.{Row, valid, invalid, absent, bipolar, unipolar, table, rowOf}
+use Rattle.volts.specs.Table.{RangeRow, valid, invalid, absent, bipolar, unipolar, inputRanges, rowOf}
 use Rattle.volts.specs.Rounding.{mul-round, div-round, exactly, cast-exact}
-use Rattle.volts.specs.Volts.{fullScale, negative, overTwoTo18, whole, Answers}
+use Rattle.volts.specs.Volts.{fullScale, negative, overTwoTo18, whole, AnswersVolts}
 
 -- The f64 x is exactly b / 2 ^ j, with b from 1 to 80.
 pub record FullScaleIs (x : Float) (b j : ℕ) : Type 0 where
@@ -26,7 +26,7 @@ pub record FullScaleIs (x : Float) (b j : ℕ) : Type 0 where
   pub most : b ≤ 80
 
 -- A row's full scale is exact: 8 * FS is whole where the row is bipolar, 4 * FS where it is unipolar.
-abbrev pub RowExact : Row → Type 0
+abbrev pub RowExact : RangeRow → Type 0
 RowExact (valid bipolar range gain) = FullScaleIs (fullScale range gain) (range * 8 / gain) 3
 RowExact (valid unipolar range gain) = FullScaleIs (fullScale range gain) (range * 4 / gain) 2
 RowExact (invalid p range gain) = Unit
@@ -37,7 +37,7 @@ abbrev quotientTests : ℕ → ℕ → ℕ → List Bool
 quotientTests j range gain =
     ltb 0 gain ∷ eqb (range * 2 ^ j) (range * 2 ^ j / gain * gain) ∷ ltb 0 (range * 2 ^ j / gain) ∷ leb (range * 2 ^ j / gain) 80 ∷ []
 
-abbrev rowTest : Row → Bool
+abbrev rowTest : RangeRow → Bool
 rowTest (valid bipolar range gain) = all (quotientTests 3 range gain)
 rowTest (valid unipolar range gain) = all (quotientTests 2 range gain)
 rowTest (invalid p range gain) = true
@@ -55,20 +55,20 @@ quotient-exact j range gain J t =
       most = most;
     }
 
-row-passes : (r : Row) → rowTest r ≡ true → RowExact r
+row-passes : (r : RangeRow) → rowTest r ≡ true → RowExact r
 row-passes (valid bipolar range gain) t = quotient-exact 3 range gain (lit≤ tt) t
 row-passes (valid unipolar range gain) t = quotient-exact 2 range gain (lit≤ tt) t
 row-passes (invalid p range gain) t = tt
 row-passes absent t = tt
 
-row-at : (rows : List Row) → Each (map rowTest rows) → (k : ℕ) → rowTest (getD rows k absent) ≡ true
+row-at : (rows : List RangeRow) → Each (map rowTest rows) → (k : ℕ) → rowTest (getD rows k absent) ≡ true
 row-at [] e k = refl
 row-at (r ∷ rs) e zero = e .0
 row-at (r ∷ rs) e (suc k) = row-at rs (e .1) k
 
 -- The full scale of every row is exact.
 pub row-exact : (range : ℕ) → RowExact (rowOf range)
-row-exact range = row-passes (rowOf range) (row-at table (each (map rowTest table) refl) range)
+row-exact range = row-passes (rowOf range) (row-at inputRanges (each (map rowTest inputRanges) refl) range)
 
 -- The sign and the size of a product.
 negated : (m : ℕ) → 0 < m → (negative (negℤ (pos m)) ≡ true) × (natAbs (negℤ (pos m)) ≡ m)
@@ -103,7 +103,7 @@ module _ (n : ℤ) (b j k : ℕ) (x : Float) (N : natAbs n < 65536) (F : FullSca
 
   -- what scales the product by 2 ^ -k, rounded once, gives the answer exactly
   pub scaled : (y : Float) → y ≡ round binary64 (unlike (negative n) false) (natAbs n * b * 1) (2 ^ j * 2 ^ k)
-      → Answers (Volts y) (whole (n *ℤ pos b)) × OperationsExact n x y b j k
+      → AnswersVolts (Volts y) (whole (n *ℤ pos b)) × OperationsExact n x y b j k
   scaled y e =
       let t = times n b (F .above) in
       let same : y ≡ round binary64 (negative n) (natAbs n * b) (2 ^ (j + k)) = e ∙ rw (same-sign, mul-one, ← pow-add) in
@@ -118,7 +118,7 @@ module _ (n : ℤ) (b j k : ℕ) (x : Float) (N : natAbs n < 65536) (F : FullSca
 
   -- a division by 2 ^ k does
   pub divided : (y : Float) → HasValue y false (2 ^ k) 1 → let r = div binary64 (mul binary64 (ofInt binary64 n) x) y in
-      Answers (Volts r) (whole (n *ℤ pos b)) × OperationsExact n x r b j k
+      AnswersVolts (Volts r) (whole (n *ℤ pos b)) × OperationsExact n x r b j k
   divided y w =
       scaled (div binary64 (mul binary64 (ofInt binary64 n) x) y)
       (div-round binary64 (negative n) false (natAbs n * b) (2 ^ j) (2 ^ k) 1 (pow-pos j) (lit< tt) (pow-pos k) (mul binary64 (ofInt binary64 n) x) y
@@ -129,7 +129,7 @@ abbrev pub computed : ℤ → Float → ℕ → Float
 computed n x k = div binary64 (mul binary64 (ofInt binary64 n) x) (fin false 1 (pos k))
 
 -- The operations that a row and a code call for.
-abbrev pub OperationsAt : Row → ℤ → Type 0
+abbrev pub OperationsAt : RangeRow → ℤ → Type 0
 OperationsAt (valid bipolar range gain) code =
     let fs = fullScale range gain in OperationsExact code fs (computed code fs 15) (range * 8 / gain) 3 15
 OperationsAt (valid unipolar range gain) code =
@@ -139,15 +139,15 @@ OperationsAt absent code = Unit
 
 pub bipolar-volts : (n : ℤ) (range gain : ℕ) → natAbs n < 65536 → RowExact (valid bipolar range gain) →
     let fs = fullScale range gain in
-    Answers (Volts (computed n fs 15)) (whole (n *ℤ pos (range * 8 / gain))) × OperationsExact n fs (computed n fs 15) (range * 8 / gain) 3 15
+    AnswersVolts (Volts (computed n fs 15)) (whole (n *ℤ pos (range * 8 / gain))) × OperationsExact n fs (computed n fs 15) (range * 8 / gain) 3 15
 bipolar-volts n range gain N f = divided n (range * 8 / gain) 3 15 (fullScale range gain) N f (lit≤ tt) refl (fin false 1 (pos 15)) (refl, refl)
 
 pub unipolar-volts : (n : ℤ) (range gain : ℕ) → natAbs n < 65536 → RowExact (valid unipolar range gain) →
     let fs = fullScale range gain in
-    Answers (Volts (computed n fs 16)) (whole (n *ℤ pos (range * 4 / gain))) × OperationsExact n fs (computed n fs 16) (range * 4 / gain) 2 16
+    AnswersVolts (Volts (computed n fs 16)) (whole (n *ℤ pos (range * 4 / gain))) × OperationsExact n fs (computed n fs 16) (range * 4 / gain) 2 16
 unipolar-volts n range gain N f = divided n (range * 4 / gain) 2 16 (fullScale range gain) N f (lit≤ tt) refl (fin false 1 (pos 16)) (refl, refl)
 
-at-row : (r : Row) (code : ℤ) → natAbs code < 65536 → natAbs (code +ℤ pos 32768) < 65536 → RowExact r → OperationsAt r code
+at-row : (r : RangeRow) (code : ℤ) → natAbs code < 65536 → natAbs (code +ℤ pos 32768) < 65536 → RowExact r → OperationsAt r code
 at-row (valid bipolar range gain) code N M f = bipolar-volts code range gain N f .1
 at-row (valid unipolar range gain) code N M f = unipolar-volts (code +ℤ pos 32768) range gain M f .1
 at-row (invalid p range gain) code N M f = tt

@@ -1,7 +1,7 @@
 // An A/D code as volts (manual, chapter 9). The C forms are in host.rt.
 ghost use mathlib.Core.Path.{_≡_};
 ghost use Rattle.volts.specs.Table.{rowOf};
-ghost use Rattle.volts.specs.Volts.{Answers, readingOf, scaleOf};
+ghost use Rattle.volts.specs.Volts.{AnswersVolts, inputVoltageOf, scaleOf};
 
 pub mod host;
 
@@ -52,7 +52,7 @@ fn full_scale_of(range: u8) -> Scale
 // The volts of an A/D code at a range code (the number written to Base + 11): code * FS / 32768 where the range is bipolar,
 // (code + 32768) * FS / 65536 where it is unipolar. A range code 4 to 7 or above 15 is refusal 13. No operation rounds.
 pub fn volts(code: i16, range: u8) -> Voltage
-    ensures { λ r. ⌜ Answers r (readingOf code range) ⌝ }
+    ensures { λ r. ⌜ AnswersVolts r (inputVoltageOf code range) ⌝ }
 {
     match full_scale_of(range) {
         Scale::Bipolar(full_scale) => Voltage::Volts(code as f64 * full_scale / 32768.0),

@@ -1,11 +1,11 @@
 -- `calibration_end::end_transfer` meets its contract. Assumes nothing.
 use borrow.Author.Needs.{needs}
-use Rattle.calibration_end.specs.Ends.{ended, eepromEnded}
+use Rattle.calibration_end.specs.Ends.{calibrationEnded, eepromEnded}
 use Rattle.calibration_end.proofs.end_transfer.Statement.{statement}
 use Rattle.calibration_end.proofs.end_transfer.Tie as tie
 
 pub end-transfer-spec : {M : Type 1} → statement M
-unfolding ended eepromEnded
+unfolding calibrationEnded eepromEnded
 end-transfer-spec =
     let met =
     tie.spec

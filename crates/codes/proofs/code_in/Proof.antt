@@ -13,7 +13,7 @@ use lib.Signed.{mag, ltZ, nonNeg}
 use mir.Syntax.{w32, w64}
 use mir.Val.{SFits, toZ, ofZ}
 use mir.Facts.{toZ-ofZ, toZ-pos, sfits-widen}
-use Rattle.codes.specs.Output.{Answers, span, plain, above, refused, inTwelveBits, nearest}
+use Rattle.codes.specs.Output.{AnswersCode, span, asNumber, above, refused, inTwelveBits, nearest}
 use Rattle.codes.specs.Nearest.{answers-nearest}
 use Rattle.codes.proofs.code_in.Statement.{statement}
 use Rattle.codes.proofs.code_in.Tie as tie
@@ -59,7 +59,8 @@ known : (c : tie.Else1) → let s = c .before in
     T (nonNeg (height s)) × (above (height s) (s .args .swing) ≡ inTwelveBits (nearest (natAbs (height s)) (s .args .swing)))
 known c = let s = c .before in whole (height s) (s .args .swing) (rw (added s, back s) at (c .if1 .left))
 
-answer : (s : tie.Start) (r : ℕ) → r ≡ plain (above (height s) (s .args .swing)) → Answers r (span (s .args .below) (s .args .swing)) (s .args .microvolts)
+answer : (s : tie.Start) (r : ℕ) → r ≡ asNumber (above (height s) (s .args .swing))
+    → AnswersCode r (span (s .args .below) (s .args .swing)) (s .args .microvolts)
 answer s r = answers-nearest r (s .args .below) (s .args .swing) (s .args .microvolts) (s .pre .1)
 
 cast-height : tie.Need-cast-height

@@ -5,17 +5,17 @@ use native.Mathlib.Omega.{arith}
 use borrow.Author.Needs.{needs}
 use borrow.Author.Tests.{le-leb, lt-leb}
 use mir.Facts.{toZ-ofZ}
-use Rattle.codes.specs.Output.{Answer, given, refused, plain, outputOf, onChannel, rangeOf}
+use Rattle.codes.specs.Output.{OutputAnswer, given, refused, asNumber, outputOf, onChannel, spanOf}
 use Rattle.codes.specs.Plain.{Within, code-within}
 use Rattle.codes.proofs.dmm32_output_bytes.Statement.{statement}
 use Rattle.codes.proofs.dmm32_output_bytes.Tie as tie
 
 -- what the test tells
-loaded : (a : Answer) (r channel : ℕ) → r ≡ plain a → r < 65536 → r + channel * 16384 ≡ plain (onChannel channel a)
+loaded : (a : OutputAnswer) (r channel : ℕ) → r ≡ asNumber a → r < 65536 → r + channel * 16384 ≡ asNumber (onChannel channel a)
 loaded (given n) r channel e h = omega arith
 loaded (refused n) r channel e h = absurd (omega arith)
 
-passed : (a : Answer) (r channel : ℕ) → Within 4095 a → r ≡ plain a → 65536 ≤ r → r ≡ plain (onChannel channel a)
+passed : (a : OutputAnswer) (r channel : ℕ) → Within 4095 a → r ≡ asNumber a → 65536 ≤ r → r ≡ asNumber (onChannel channel a)
 passed (given n) r channel s e h = absurd (omega arith)
 passed (refused n) r channel s e h = e
 
@@ -32,7 +32,7 @@ add-result : tie.Need-add-result
 add-result c = search needs
 
 called : (c : tie.After-dmm32-output-code)
-    → c .dmm32-output-code .result ≡ plain (outputOf (c .before .before .args .microvolts) (c .before .before .args .range))
+    → c .dmm32-output-code .result ≡ asNumber (outputOf (c .before .before .args .microvolts) (c .before .before .args .range))
 called c = rw (toZ-ofZ (c .before .before .fits .microvolts)) at (c .dmm32-output-code .ensures .is)
 
 returns-2 : tie.Need-returns-2
@@ -46,7 +46,7 @@ returns-3 c =
     let s = c .before .before .before in
     rw (le-leb _ 3 (c .before .before .if1 .left))
     (passed (outputOf (s .args .microvolts) (s .args .range)) (c .before .dmm32-output-code .result) (s .args .channel)
-    (code-within (rangeOf (s .args .range)) (s .args .microvolts)) (called (c .before)) (c .if2 .left))
+    (code-within (spanOf (s .args .range)) (s .args .microvolts)) (called (c .before)) (c .if2 .left))
 
 pub dmm32-output-bytes-spec : {M : Type 1} → statement M
 dmm32-output-bytes-spec = tie.close (tie.spec returns dmm32-output-code-requires mul-result add-result returns-2 returns-3)

@@ -3,10 +3,10 @@ use borrow.Author.Needs.{needs}
 use borrow.Author.Tests.{eq-eqb, ne-eqb}
 use Rattle.collector_records.proofs.start.Statement.{statement}
 use Rattle.collector_records.proofs.start.Tie as tie
-use Rattle.collector_records.specs.Records.{started}
+use Rattle.collector_records.specs.Records.{startOf}
 
 pub start-spec : {M : Type 1} → statement M
-unfolding started
+unfolding startOf
 start-spec =
     let met =
     tie.spec

@@ -12,8 +12,8 @@ use mir.Val.{SFits, toZ, ofZ}
 use mir.Facts.{toZ-ofZ, sfits-widen, fits-natAbs}
 use Rattle.volts.specs.declared.Voltage.the-variants.{Volts, Refused}
 use Rattle.volts.specs.declared.Scale.the-variants.{Bipolar, Unipolar, Invalid}
-use Rattle.volts.specs.Table.{Row, valid, invalid, absent, bipolar, unipolar, rowOf}
-use Rattle.volts.specs.Volts.{scaleOf, fullScale, readingAt, Answers}
+use Rattle.volts.specs.Table.{RangeRow, valid, invalid, absent, bipolar, unipolar, rowOf}
+use Rattle.volts.specs.Volts.{scaleOf, fullScale, inputVoltageAt, AnswersVolts}
 use Rattle.volts.specs.Exact.{RowExact, row-exact, computed, bipolar-volts, unipolar-volts}
 use Rattle.volts.proofs.volts.Statement.{statement}
 use Rattle.volts.proofs.volts.Tie as tie
@@ -21,7 +21,8 @@ use Rattle.volts.proofs.volts.Tie as tie
 apart : _≡_ {A = ℕ} 0 1 → ⊥
 apart e = omega arith
 
-by-bipolar : (r : Row) (x : Float) (n : ℤ) → natAbs n < 65536 → RowExact r → scaleOf r ≡ Bipolar x → Answers (Volts (computed n x 15)) (readingAt r n)
+by-bipolar : (r : RangeRow) (x : Float) (n : ℤ) → natAbs n < 65536 → RowExact r → scaleOf r ≡ Bipolar x
+    → AnswersVolts (Volts (computed n x 15)) (inputVoltageAt r n)
 by-bipolar (valid bipolar range gain) x n N f e =
     let same : x ≡ fullScale range gain = cc in
     rw same (bipolar-volts n range gain N f .0)
@@ -29,8 +30,8 @@ by-bipolar (valid unipolar range gain) x n N f e = absurd (apart (cc))
 by-bipolar (invalid p range gain) x n N f e = absurd (apart (cc))
 by-bipolar absent x n N f e = absurd (apart (cc))
 
-by-unipolar : (r : Row) (x : Float) (code : ℤ) → natAbs (code +ℤ pos 32768) < 65536 → RowExact r → scaleOf r ≡ Unipolar x
-    → Answers (Volts (computed (code +ℤ pos 32768) x 16)) (readingAt r code)
+by-unipolar : (r : RangeRow) (x : Float) (code : ℤ) → natAbs (code +ℤ pos 32768) < 65536 → RowExact r → scaleOf r ≡ Unipolar x
+    → AnswersVolts (Volts (computed (code +ℤ pos 32768) x 16)) (inputVoltageAt r code)
 by-unipolar (valid bipolar range gain) x code N f e = absurd (apart (cc))
 by-unipolar (valid unipolar range gain) x code N f e =
     let same : x ≡ fullScale range gain = cc in
@@ -38,7 +39,7 @@ by-unipolar (valid unipolar range gain) x code N f e =
 by-unipolar (invalid p range gain) x code N f e = absurd (apart (cc))
 by-unipolar absent x code N f e = absurd (apart (cc))
 
-by-invalid : (r : Row) (code : ℤ) → scaleOf r ≡ Invalid → Answers (Refused 13) (readingAt r code)
+by-invalid : (r : RangeRow) (code : ℤ) → scaleOf r ≡ Invalid → AnswersVolts (Refused 13) (inputVoltageAt r code)
 by-invalid (valid bipolar range gain) code e = absurd (apart (cc))
 by-invalid (valid unipolar range gain) code e = absurd (apart (cc))
 by-invalid (invalid p range gain) code e = record { is = refl; exact = refl }

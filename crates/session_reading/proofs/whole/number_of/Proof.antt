@@ -2,10 +2,10 @@
 use borrow.Author.Tests.{eq-eqb, ne-eqb}
 use Rattle.session_reading.proofs.whole.number_of.Statement.{statement}
 use Rattle.session_reading.proofs.whole.number_of.Tie as tie
-use Rattle.session_reading.specs.Whole.{numberOf}
+use Rattle.session_reading.specs.Whole.{numberAfter}
 
 pub number-of-spec : {M : Type 1} → statement M
-unfolding numberOf
+unfolding numberAfter
 number-of-spec =
     let met =
     tie.spec

@@ -4,12 +4,12 @@ use native.Mathlib.Omega.{arith}
 use borrow.Author.Needs.{needs}
 use lib.ListN.{List·getD-eq-default}
 use mir.Facts.{toZ-ofZ}
-use Rattle.volts.specs.Table.{table, absent}
+use Rattle.volts.specs.Table.{inputRanges, absent}
 use Rattle.volts.proofs.host.answer.Statement.{statement}
 use Rattle.volts.proofs.host.answer.Tie as tie
 
 returns : tie.Need-returns
-returns c = let beyond : 16 ≤ c .before .args .range = omega arith in rw (List·getD-eq-default table absent beyond)
+returns c = let beyond : 16 ≤ c .before .args .range = omega arith in rw (List·getD-eq-default inputRanges absent beyond)
 
 cast-volts : tie.Need-cast-volts
 cast-volts c = search needs

@@ -2,13 +2,13 @@
 use mathlib.Core.Path.{_≡_, refl, ap, sym, _∙_}
 use borrow.Author.Needs.{needs}
 use lib.IntN.{ℤ, pos}
-use Rattle.volts.specs.Table.{Row, valid, invalid, absent, bipolar, unipolar, rowOf}
-use Rattle.volts.specs.Volts.{readingAt, voltage}
+use Rattle.volts.specs.Table.{RangeRow, valid, invalid, absent, bipolar, unipolar, rowOf}
+use Rattle.volts.specs.Volts.{inputVoltageAt, voltage}
 use Rattle.volts.specs.Host.{plainRefusal}
 use Rattle.volts.proofs.host.dmm32_volts_refusal.Statement.{statement}
 use Rattle.volts.proofs.host.dmm32_volts_refusal.Tie as tie
 
-by-row : (r : Row) (a b : ℤ) → plainRefusal (voltage (readingAt r a)) ≡ plainRefusal (voltage (readingAt r b))
+by-row : (r : RangeRow) (a b : ℤ) → plainRefusal (voltage (inputVoltageAt r a)) ≡ plainRefusal (voltage (inputVoltageAt r b))
 by-row (valid bipolar range gain) a b = refl
 by-row (valid unipolar range gain) a b = refl
 by-row (invalid p range gain) a b = refl
