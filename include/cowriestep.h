@@ -498,7 +498,8 @@ size_t dmm32_whole_scans(const int16_t *samples, size_t length, uint32_t low, ui
  *     12 0-10 V   13 0-5 V   14 0-2.5 V   15 0-1.25 V   any other number is refused
  *
  * dmm32_volts answers code * FS / 32768 at a bipolar range and (code + 32768) * FS / 65536 at a unipolar one, FS being the full-scale voltage. The
- * double is exactly that value, a whole number over 2^18: nothing is rounded. 0 V is +0.0. At a range code that is refused it is a NaN.
+ * double is exactly that value, a whole number over 2^18: nothing is rounded. 0 V is +0.0. At a range code that is refused it is a NaN. It is worked
+ * out by multiplications alone.
  */
 double dmm32_volts(int16_t code, uint32_t range);
 

@@ -7,6 +7,15 @@ import subprocess
 from trials_programs import CASES, OWN, ROOT
 
 
+def compiled(sources, tools, archive):
+    """Compiles the library as `rt staticlib` does, but with no proof and by these tools; None, or what is wrong with it."""
+    if os.path.exists(archive):
+        os.remove(archive)
+    words = [CASES, "--toolchain", tools, "--staticlib", archive, *sources.words("cowriestep", "lib")]
+    done = subprocess.run(words, stdout=subprocess.PIPE, stderr=subprocess.STDOUT)
+    return None if os.path.exists(archive) else done.stdout.decode(errors="replace").strip().split("\n")[0]
+
+
 class Library:
     """One script of tests/host, run against libcowriestep.a of the changed sources."""
 
@@ -19,14 +28,6 @@ class Library:
         self.told = os.path.join(self.folder, told)
         os.makedirs(self.folder)
 
-    def build(self):
-        """Compiles the library as `rt staticlib` does, but with no proof; None, or what is wrong with it."""
-        if os.path.exists(self.archive):
-            os.remove(self.archive)
-        words = [CASES, "--toolchain", os.path.join(OWN, "toolchain"), "--staticlib", self.archive, *self.sources.words("cowriestep", "lib")]
-        done = subprocess.run(words, stdout=subprocess.PIPE, stderr=subprocess.STDOUT)
-        return None if os.path.exists(self.archive) else done.stdout.decode(errors="replace").strip().split("\n")[0]
-
     def reaches(self, file):
         return file.split("/")[0] in self.crates
 
@@ -34,7 +35,7 @@ class Library:
         """(the script, what it says) where it fails with a change of these files of crates; None if it does not."""
         if not any(self.reaches(file) for file in files):
             return None
-        wrong = self.build()
+        wrong = compiled(self.sources, os.path.join(OWN, "toolchain"), self.archive)
         if wrong:
             return "NOT COMPILED", wrong
         with subprocess.Popen([self.script, self.told], stdout=subprocess.PIPE, stderr=subprocess.STDOUT, start_new_session=True) as run:

@@ -18,7 +18,7 @@ RUNS = [] if platform.machine() == "x86_64" else [os.path.join(OWN, "toolchain",
 # A compiler at a level of its own, since the longer runs are slow at -O0, and a linker that keeps the program and then fails, so that each program
 # is compiled once only.
 COMPILER = """#!/bin/sh
-for word; do shift; if [ "$word" = -O0 ]; then word=-O%d; fi; set -- "$@" "$word"; done
+for word; do shift; if [ "$word" = -O%d ]; then word=-O%d; fi; set -- "$@" "$word"; done
 exec %s/toolchain/bin/clang "$@"
 """
 LINKER = """#!/bin/sh
@@ -26,6 +26,17 @@ LINKER = """#!/bin/sh
 while [ $# -gt 1 ]; do if [ "$1" = -o ]; then cp "$2" "%s"; fi; shift; done
 exit 1
 """
+
+
+def toolchain(folder, told, level, linker):
+    """A folder of tools for the kit: a compiler that optimises at this level where it is told the other one, 0 or 3, and this linker."""
+    os.makedirs(os.path.join(folder, "bin"))
+    os.symlink(os.path.join(OWN, "toolchain", "lib"), os.path.join(folder, "lib"))
+    os.symlink(os.path.join(OWN, "toolchain", "bin", "llvm-ar"), os.path.join(folder, "bin", "llvm-ar"))
+    for tool, text in ("clang", COMPILER % (told, level, OWN)), ("ld.lld", linker):
+        with open(os.path.join(folder, "bin", tool), "w") as file:
+            file.write(text)
+        os.chmod(os.path.join(folder, "bin", tool), 0o755)
 
 
 class Sources:
@@ -101,13 +112,7 @@ class Programs:
         self.sources, self.runs = sources, runs
         self.tools = os.path.join(sources.work, "toolchain%d" % level)
         self.program = os.path.join(sources.work, "program%d" % level)
-        os.makedirs(os.path.join(self.tools, "bin"))
-        os.symlink(os.path.join(OWN, "toolchain", "lib"), os.path.join(self.tools, "lib"))
-        os.symlink(os.path.join(OWN, "toolchain", "bin", "llvm-ar"), os.path.join(self.tools, "bin", "llvm-ar"))
-        for tool, text in ("clang", COMPILER % (level, OWN)), ("ld.lld", LINKER % (OWN, self.program)):
-            with open(os.path.join(self.tools, "bin", tool), "w") as file:
-                file.write(text)
-            os.chmod(os.path.join(self.tools, "bin", tool), 0o755)
+        toolchain(self.tools, 0, level, LINKER % (OWN, self.program))
 
     def compile(self, name):
         """Compiles a program; None, or what is wrong with it."""

@@ -1,5 +1,7 @@
-// A Rust host of the static library: compares every A/D code at every range code with exact fractions, and output requests with the table of the
-// voltages at which one code gives way to the next. Prints what it compared; the exit status is 1 where anything differs.
+// A Rust host of the static library: compares the bits of the volts of every A/D code at every range code with exact fractions and with a division
+// of its own, and output requests with the table of the voltages at which one code gives way to the next. Prints what it compared; the exit status is
+// 1 where anything differs.
+use std::hint::black_box;
 use std::process::ExitCode;
 
 extern "C" {
@@ -59,17 +61,24 @@ fn exact_bits(numerator: i128, denominator: i128) -> Option<u64> {
     Some((((numerator < 0) as u64) << 63) | ((exponent as u64) << 52) | mantissa)
 }
 
+// x over by, as the processor divides: the compiler does not know by what, and cannot make a multiplication of it.
+fn quotient(x: f64, by: i128) -> f64 {
+    x / black_box(by as f64)
+}
+
 fn volts_at(tally: &mut Tally, range: u32) {
     let refusal = unsafe { dmm32_volts_refusal(range) };
     tally.result(refusal == if row(range).is_some() { 0 } else { 13 }, || format!("volts_refusal({range})"));
     for code in i16::MIN..=i16::MAX {
         let x = unsafe { dmm32_volts(code, range) };
-        let same = match row(range) {
-            None => x.is_nan(),
-            Some((false, volts, gain)) => exact_bits(code as i128 * volts, 32768 * gain) == Some(x.to_bits()),
-            Some((true, volts, gain)) => exact_bits((code as i128 + 32768) * volts, 65536 * gain) == Some(x.to_bits()),
+        let Some((unipolar, volts, gain)) = row(range) else {
+            tally.result(x.to_bits() == f64::NAN.to_bits(), || format!("volts({code}, {range}) is {x}"));
+            continue;
         };
-        tally.result(same, || format!("volts({code}, {range}) is {x}"));
+        let (n, over) = if unipolar { (code as i128 + 32768, 65536) } else { (code as i128, 32768) };
+        tally.result(exact_bits(n * volts, over * gain) == Some(x.to_bits()), || format!("volts({code}, {range}) is {x}"));
+        let divided = quotient(n as f64 * quotient(volts as f64, gain), over);
+        tally.result(divided.to_bits() == x.to_bits(), || format!("volts({code}, {range}) is {x}, divided {divided}"));
     }
 }
 
@@ -134,7 +143,7 @@ impl Random {
 
 fn main() -> ExitCode {
     let mut tally = Tally::default();
-    for range in (0..=40).chain([100, 127, 128, 255, 256, 260, 271, 65535, 65536, u32::MAX]) {
+    for range in (0..=255).chain([256, 260, 271, 65535, 65536, 65550, 1 << 31, u32::MAX]) {
         volts_at(&mut tally, range);
     }
     println!("host.rs: {} comparisons of volts", tally.compared);

@@ -1,22 +1,23 @@
 -- No operation of `volts` rounds: each gives exactly a whole number over a power of two (the specification, "The f64 is exactly a whole number
--- over 2^18"). The scaling by a power of two is behind one law, `scaled`.
+-- over 2^18"). The scaling by a power of two is a multiplication by its reciprocal, and stands behind one law, `scaled`.
 use mathlib.Core.Path.{_≡_, refl, ap, _∙_}
 use mathlib.Core.Bool.{Bool, true, false}
 use mathlib.Core.List.{List, [], _∷_, map}
 use Prim.Native.Nat.{ℕ, zero, suc, _+_, _*_, _/_, _^_, _≤_, _<_}
 use native.Mathlib.Nat.{mul-pos, mul-one, one-mul, mul-le-mul, zero-lt-suc, lt-irrefl, lt-of-lt-of-le, lt-of-le-of-lt, le-of-lt}
+use native.Mathlib.Omega.{arith}
 use borrow.Author.Tests.{eqb-true, leb-true, ltb-true}
 use lib.Dec.{eqb, ltb, leb, lit<, lit≤}
 use lib.ListN.{getD}
 use lib.Pow.{pow-add, pow-pos}
 use lib.IntN.{ℤ, pos, negsuc, natAbs, negℤ, _+ℤ_, _*ℤ_}
-use lib.Ieee.{Float, fin, binary64, unlike, round, mul, div, ofInt}
+use lib.Ieee.{Float, binary64, unlike, round, mul, ofInt}
 use lib.Ieee.Exact.{HasValue}
 use lib.Ieee.Scale.{round-same}
 use Rattle.base.specs.Tests.{all, Each, each}
 use Rattle.volts.specs.declared.Voltage.the-variants.{Volts}
 use Rattle.volts.specs.Table.{RangeRow, valid, invalid, absent, bipolar, unipolar, inputRanges, rowOf}
-use Rattle.volts.specs.Rounding.{mul-round, div-round, exactly, cast-exact}
+use Rattle.volts.specs.Rounding.{mul-round, exactly, cast-exact}
 use Rattle.volts.specs.Volts.{fullScale, negative, overTwoTo18, whole, AnswersVolts}
 
 -- The f64 x is exactly b / 2 ^ j, with b from 1 to 80.
@@ -83,11 +84,20 @@ same-sign : (s : Bool) → unlike s false ≡ s
 same-sign false = refl
 same-sign true = refl
 
--- The three operations on a whole number n and a full scale x, which is b / 2 ^ j: the cast, the product, and its scaling y by 2 ^ -k.
-pub record OperationsExact (n : ℤ) (x y : Float) (b j k : ℕ) : Type 0 where
+-- The f64 of 1 / 2 ^ k.
+abbrev pub reciprocal : ℕ → Float
+reciprocal k = round binary64 false 1 (2 ^ k)
+
+-- What `volts` computes of a whole number n and a full scale x: n * x * 2 ^ -k.
+abbrev pub computed : ℤ → Float → ℕ → Float
+computed n x k = mul binary64 (mul binary64 (ofInt binary64 n) x) (reciprocal k)
+
+-- The three operations on a whole number n and a full scale x, which is b / 2 ^ j: the cast, the product, and its scaling by the constant 2 ^ -k.
+pub record OperationsExact (n : ℤ) (x : Float) (b j k : ℕ) : Type 0 where
   pub cast : HasValue (ofInt binary64 n) (negative n) (natAbs n) 1
   pub product : HasValue (mul binary64 (ofInt binary64 n) x) (negative n) (natAbs n * b) (2 ^ j)
-  pub scaling : HasValue y (negative n) (natAbs n * b) (2 ^ (j + k))
+  pub constant : HasValue (reciprocal k) false 1 (2 ^ k)
+  pub scaling : HasValue (computed n x k) (negative n) (natAbs n * b) (2 ^ (j + k))
 
 module _ (n : ℤ) (b j k : ℕ) (x : Float) (N : natAbs n < 65536) (F : FullScaleIs x b j) (J : j ≤ 1074) (K : j + k ≡ 18) where
   small : natAbs n * b < 2 ^ 53
@@ -101,51 +111,46 @@ module _ (n : ℤ) (b j k : ℕ) (x : Float) (N : natAbs n < 65536) (F : FullSca
       rw (mul-round binary64 (negative n) false (natAbs n) 1 b (2 ^ j) (lit< tt) (pow-pos j) (ofInt binary64 n) x whole-cast (F .exact), same-sign, one-mul)
       (exactly (negative n) (natAbs n * b) j small J)
 
-  -- what scales the product by 2 ^ -k, rounded once, gives the answer exactly
-  pub scaled : (y : Float) → y ≡ round binary64 (unlike (negative n) false) (natAbs n * b * 1) (2 ^ j * 2 ^ k)
-      → AnswersVolts (Volts y) (whole (n *ℤ pos b)) × OperationsExact n x y b j k
-  scaled y e =
+  reciprocal-exact : HasValue (reciprocal k) false 1 (2 ^ k)
+  reciprocal-exact = exactly false 1 k (lit< tt) (omega (arith, K))
+
+  rounded-once : computed n x k ≡ round binary64 (negative n) (natAbs n * b) (2 ^ (j + k))
+  rounded-once =
+      mul-round binary64 (negative n) false (natAbs n * b) (2 ^ j) 1 (2 ^ k) (pow-pos j) (pow-pos k) (mul binary64 (ofInt binary64 n) x) (reciprocal k)
+      product-exact reciprocal-exact ∙ rw (same-sign, mul-one, ← pow-add)
+
+  -- the product times 2 ^ -k gives the answer exactly
+  pub scaled : AnswersVolts (Volts (computed n x k)) (whole (n *ℤ pos b)) × OperationsExact n x b j k
+  scaled =
       let t = times n b (F .above) in
-      let same : y ≡ round binary64 (negative n) (natAbs n * b) (2 ^ (j + k)) = e ∙ rw (same-sign, mul-one, ← pow-add) in
-      let is : y ≡ overTwoTo18 (n *ℤ pos b) = same ∙ rw (K, t .0, t .1) in (
+      let is : computed n x k ≡ overTwoTo18 (n *ℤ pos b) = rounded-once ∙ rw (K, t .0, t .1) in (
         record { is = ap Volts is; exact = rw is (exactly (negative (n *ℤ pos b)) (natAbs (n *ℤ pos b)) 18 (rw (t .1) small) (lit≤ tt)) },
         record {
           cast = whole-cast;
           product = product-exact;
-          scaling = rw (same, K) (exactly (negative n) (natAbs n * b) 18 small (lit≤ tt));
+          constant = reciprocal-exact;
+          scaling = rw (rounded-once, K) (exactly (negative n) (natAbs n * b) 18 small (lit≤ tt));
         },
       )
-
-  -- a division by 2 ^ k does
-  pub divided : (y : Float) → HasValue y false (2 ^ k) 1 → let r = div binary64 (mul binary64 (ofInt binary64 n) x) y in
-      AnswersVolts (Volts r) (whole (n *ℤ pos b)) × OperationsExact n x r b j k
-  divided y w =
-      scaled (div binary64 (mul binary64 (ofInt binary64 n) x) y)
-      (div-round binary64 (negative n) false (natAbs n * b) (2 ^ j) (2 ^ k) 1 (pow-pos j) (lit< tt) (pow-pos k) (mul binary64 (ofInt binary64 n) x) y
-      product-exact w)
-
--- What `volts` computes of a whole number n and a full scale x: n * x / 2 ^ k.
-abbrev pub computed : ℤ → Float → ℕ → Float
-computed n x k = div binary64 (mul binary64 (ofInt binary64 n) x) (fin false 1 (pos k))
 
 -- The operations that a row and a code call for.
 abbrev pub OperationsAt : RangeRow → ℤ → Type 0
 OperationsAt (valid bipolar range gain) code =
-    let fs = fullScale range gain in OperationsExact code fs (computed code fs 15) (range * 8 / gain) 3 15
+    let fs = fullScale range gain in OperationsExact code fs (range * 8 / gain) 3 15
 OperationsAt (valid unipolar range gain) code =
-    let fs = fullScale range gain in let n = code +ℤ pos 32768 in OperationsExact n fs (computed n fs 16) (range * 4 / gain) 2 16
+    let fs = fullScale range gain in let n = code +ℤ pos 32768 in OperationsExact n fs (range * 4 / gain) 2 16
 OperationsAt (invalid p range gain) code = Unit
 OperationsAt absent code = Unit
 
 pub bipolar-volts : (n : ℤ) (range gain : ℕ) → natAbs n < 65536 → RowExact (valid bipolar range gain) →
     let fs = fullScale range gain in
-    AnswersVolts (Volts (computed n fs 15)) (whole (n *ℤ pos (range * 8 / gain))) × OperationsExact n fs (computed n fs 15) (range * 8 / gain) 3 15
-bipolar-volts n range gain N f = divided n (range * 8 / gain) 3 15 (fullScale range gain) N f (lit≤ tt) refl (fin false 1 (pos 15)) (refl, refl)
+    AnswersVolts (Volts (computed n fs 15)) (whole (n *ℤ pos (range * 8 / gain))) × OperationsExact n fs (range * 8 / gain) 3 15
+bipolar-volts n range gain N f = scaled n (range * 8 / gain) 3 15 (fullScale range gain) N f (lit≤ tt) refl
 
 pub unipolar-volts : (n : ℤ) (range gain : ℕ) → natAbs n < 65536 → RowExact (valid unipolar range gain) →
     let fs = fullScale range gain in
-    AnswersVolts (Volts (computed n fs 16)) (whole (n *ℤ pos (range * 4 / gain))) × OperationsExact n fs (computed n fs 16) (range * 4 / gain) 2 16
-unipolar-volts n range gain N f = divided n (range * 4 / gain) 2 16 (fullScale range gain) N f (lit≤ tt) refl (fin false 1 (pos 16)) (refl, refl)
+    AnswersVolts (Volts (computed n fs 16)) (whole (n *ℤ pos (range * 4 / gain))) × OperationsExact n fs (range * 4 / gain) 2 16
+unipolar-volts n range gain N f = scaled n (range * 4 / gain) 2 16 (fullScale range gain) N f (lit≤ tt) refl
 
 at-row : (r : RangeRow) (code : ℤ) → natAbs code < 65536 → natAbs (code +ℤ pos 32768) < 65536 → RowExact r → OperationsAt r code
 at-row (valid bipolar range gain) code N M f = bipolar-volts code range gain N f .1

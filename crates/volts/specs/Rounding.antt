@@ -1,35 +1,25 @@
 -- Floats that are exactly a fraction: what the operations of the IEEE format make of them.
 use mathlib.Core.Path.{_≡_, _∙_}
 use mathlib.Core.Bool.{Bool, true, false}
-use Prim.Native.Nat.{ℕ, zero, suc, _+_, _-_, _*_, _^_, _≤_, _<_, zero-le}
-use native.Mathlib.Nat.{mul-pos, mul-assoc, mul-comm, mul-left-comm, mul-mul-mul-comm, zero-mul, zero-lt-suc, lt-irrefl, lt-of-lt-of-le}
+use Prim.Native.Nat.{ℕ, suc, _+_, _-_, _*_, _^_, _≤_, _<_, zero-le}
+use native.Mathlib.Nat.{mul-pos, mul-assoc, mul-mul-mul-comm, lt-of-lt-of-le}
 use native.Mathlib.Omega.{arith}
-use lib.Dec.{eqb·suc-zero}
 use lib.Pow.{pow-add, pow-mono, pow-pos, shl-lt}
 use lib.IntN.{ℤ, pos, negsuc, natAbs}
-use lib.Ieee.{Float, fin, Format, binary64, unlike, up, down, round, mul, div, ofInt}
+use lib.Ieee.{Float, fin, Format, binary64, unlike, up, down, round, mul, ofInt}
 use lib.Ieee.Exact.{HasValue, round-exact}
-use lib.Ieee.Fits.{up-pos, down-pos}
+use lib.Ieee.Fits.{down-pos}
 use lib.Ieee.Scale.{round-same}
 use Rattle.volts.specs.Volts.{negative}
 
--- ±a / c times ±b / d, and ±a / c over ±b / d, are rounded once.
-module _ (f : Format) (s t : Bool) (a c b d : ℕ) (C : 0 < c) (D : 0 < d) where
-  pub mul-round : (x y : Float) → HasValue x s a c → HasValue y t b d → mul f x y ≡ round f (unlike s t) (a * b) (c * d)
-  unfolding mul
-  mul-round (fin s' m e) (fin t' n g) v w =
-      rw (v .0, w .0)
-      (round-same f (unlike s t) (m * up e * (n * up g)) (down e * down g) (a * b) (c * d) (mul-pos (down-pos e) (down-pos g)) (mul-pos C D)
-      (mul-mul-mul-comm (m * up e) (n * up g) c d ∙ rw (v .1, w .1) (mul-mul-mul-comm a (down e) b (down g))))
-
-  pub div-round : 0 < b → (x y : Float) → HasValue x s a c → HasValue y t b d → div f x y ≡ round f (unlike s t) (a * d) (c * b)
-  unfolding div
-  div-round B (fin s' m e) (fin t' zero g) v w = absurd (lt-irrefl 0 (simp (← w .1, zero-mul) at (mul-pos B (down-pos g))))
-  div-round B (fin s' m e) (fin t' (suc n) g) v w =
-      rw (eqb·suc-zero n, v .0, w .0)
-      (round-same f (unlike s t) (m * up e * down g) (suc n * up g * down e) (a * d) (c * b) (mul-pos (mul-pos (zero-lt-suc n) (up-pos g)) (down-pos e))
-      (mul-pos C B)
-      (mul-mul-mul-comm (m * up e) (down g) c b ∙ rw (v .1, mul-comm (down g) b, ← w .1) (simp (mul-assoc, mul-comm, mul-left-comm))))
+-- ±a / c times ±b / d is rounded once.
+pub mul-round : (f : Format) (s t : Bool) (a c b d : ℕ) → 0 < c → 0 < d → (x y : Float) → HasValue x s a c → HasValue y t b d
+    → mul f x y ≡ round f (unlike s t) (a * b) (c * d)
+unfolding mul
+mul-round f s t a c b d C D (fin s' m e) (fin t' n g) v w =
+    rw (v .0, w .0)
+    (round-same f (unlike s t) (m * up e * (n * up g)) (down e * down g) (a * b) (c * d) (mul-pos (down-pos e) (down-pos g)) (mul-pos C D)
+    (mul-mul-mul-comm (m * up e) (n * up g) c d ∙ rw (v .1, w .1) (mul-mul-mul-comm a (down e) b (down g))))
 
 -- A whole number below 2 ^ 53, over 2 ^ k, is a value of the format.
 pub exactly : (s : Bool) (n k : ℕ) → n < 2 ^ 53 → k ≤ 1074 → HasValue (round binary64 s n (2 ^ k)) s n (2 ^ k)

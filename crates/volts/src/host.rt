@@ -5,6 +5,9 @@ ghost use Rattle.volts.specs.Volts.{inputVoltageOf, voltage};
 ghost use Rattle.volts.specs.Host.{plainRefusal, plainVolts};
 use crate::Voltage;
 
+// The bits of the f64 that is infinite.
+const INFINITE: u64 = 0x7FF0_0000_0000_0000;
+
 // `volts` for a range code of any size.
 fn answer(code: i16, range: u32) -> Voltage
     ensures { λ r. ⌜ r ≡ voltage (inputVoltageOf code range) ⌝ }
@@ -15,14 +18,14 @@ fn answer(code: i16, range: u32) -> Voltage
     crate::volts(code, range as u8)
 }
 
-// The volts of an A/D code at a range code; a NaN where the range code is refused.
+// The volts of an A/D code at a range code; a NaN, which an infinity times 0.0 is, where the range code is refused.
 #[no_mangle]
 pub extern "C" fn dmm32_volts(code: i16, range: u32) -> f64
     ensures { λ r. ⌜ r ≡ plainVolts (voltage (inputVoltageOf code range)) ⌝ }
 {
     match answer(code, range) {
         Voltage::Volts(x) => x,
-        Voltage::Refused(_) => 0.0 / 0.0,
+        Voltage::Refused(_) => f64::from_bits(INFINITE) * 0.0,
     }
 }
 

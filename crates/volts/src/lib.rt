@@ -38,6 +38,11 @@ const SCALES: [Scale; 16] = [
     Scale::Unipolar(1.25),
 ];
 
+// 2 ^ -15 and 2 ^ -16, the exact reciprocals: a multiplication by one is the manual's division, bit by bit.
+const ONE_BY_32768: f64 = 1.0 / 32768.0;
+
+const ONE_BY_65536: f64 = 1.0 / 65536.0;
+
 // The scale of a range code: its row's full scale is the row's range over its gain.
 fn full_scale_of(range: u8) -> Scale
     ensures { λ r. ⌜ r ≡ scaleOf (rowOf range) ⌝ }
@@ -55,9 +60,9 @@ pub fn volts(code: i16, range: u8) -> Voltage
     ensures { λ r. ⌜ AnswersVolts r (inputVoltageOf code range) ⌝ }
 {
     match full_scale_of(range) {
-        Scale::Bipolar(full_scale) => Voltage::Volts(code as f64 * full_scale / 32768.0),
+        Scale::Bipolar(full_scale) => Voltage::Volts(code as f64 * full_scale * ONE_BY_32768),
         Scale::Unipolar(full_scale) => {
-            Voltage::Volts((code as i32 + 32768) as f64 * full_scale / 65536.0)
+            Voltage::Volts((code as i32 + 32768) as f64 * full_scale * ONE_BY_65536)
         }
         Scale::Invalid => Voltage::Refused(13),
     }

@@ -1,4 +1,5 @@
--- `volts::volts` meets its contract: the row of the range code picks the formula, and no operation rounds. Assumes nothing.
+-- `volts::volts` meets its contract: the row of the range code picks the formula, the constants are 2 ^ -15 and 2 ^ -16, and no operation rounds.
+-- Assumes nothing.
 use mathlib.Core.Path.{_≡_, refl}
 use Prim.Native.Nat.{ℕ, suc, _<_}
 use native.Mathlib.Omega.{arith}
@@ -6,7 +7,7 @@ use borrow.Author.Needs.{needs}
 use borrow.Author.Tests.{le-ltb}
 use lib.IntN.{ℤ, pos, negsuc, natAbs, _+ℤ_}
 use lib.Signed.{mag}
-use lib.Ieee.{Float, ofBits}
+use lib.Ieee.{Float, ofBits, round}
 use mir.Syntax.{w16, w32}
 use mir.Val.{SFits, toZ, ofZ}
 use mir.Facts.{toZ-ofZ, sfits-widen, fits-natAbs}
@@ -84,7 +85,7 @@ enum-told : tie.Need-enum-told
 enum-told c = search needs
 
 returns : tie.Need-returns
-unfolding ofBits
+unfolding ofBits round
 returns c =
     let h = c .before .before in
     let s = h .before .before .before in
@@ -93,7 +94,7 @@ returns c =
     (row-exact (s .args .range)) (rw (h .before .before .full-scale-of .ensures) at (h .full-scale .given .1)))
 
 returns-2 : tie.Need-returns-2
-unfolding ofBits
+unfolding ofBits round
 returns-2 c =
     let h = c .before .before in
     let s = h .before .before .before in
