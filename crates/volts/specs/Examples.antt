@@ -1,6 +1,6 @@
 -- Single codes and range codes of the specification's "Volts" and the manual's table 9.4; marked case 6 is in the table of the crate marked.
 use mathlib.Core.Path.{_≡_, refl}
-use mathlib.Core.Bool.{false}
+use mathlib.Core.Bool.{true, false}
 use lib.IntN.{ℤ, pos, negℤ}
 use lib.Ieee.{fin, round}
 use Rattle.volts.specs.declared.Voltage.the-variants.{Volts, Refused}
@@ -18,6 +18,11 @@ zero-bipolar = refl
 pub zero-unipolar : voltage (inputVoltageOf (negℤ (pos 32768)) 12) ≡ Volts (fin false 0 (pos 0))
 unfolding round
 zero-unipolar = refl
+
+-- The lowest code of ±5 V, -32768, is -5 V.
+pub lowest-bipolar : voltage (inputVoltageOf (negℤ (pos 32768)) 0) ≡ Volts (fin true 5 (pos 0))
+unfolding round
+lowest-bipolar = refl
 
 -- Range codes 4 to 7 and 16 are refused 13, whatever the code.
 pub refused-13 : (code : ℤ) → (voltage (inputVoltageOf code 4) ≡ Refused 13) × (voltage (inputVoltageOf code 5) ≡ Refused 13)
