@@ -44,7 +44,7 @@ extern "C" {
 /* The five arguments that lend a board: a pointer to its record, its sample memory and its EEPROM, both of full length. */
 #define COWRIESTEP_LENT(board, memory, eeprom) (board), (memory), (size_t)COWRIESTEP_MEMORY_LENGTH, (eeprom), (size_t)COWRIESTEP_EEPROM_LENGTH
 
-/* ---- refusals, by the numbers of the specification. What is refused changes nothing, but for 15 */
+/* ---- refusals, by the numbers of the specification; 16 is not used. What is refused changes nothing, but for 15 */
 
 #define COWRIESTEP_REFUSED_RECORD 1          /* the record or the sample memory is not a working board's, or a collector's record is unfit */
 #define COWRIESTEP_REFUSED_LENGTH 2          /* the sample memory is not 512 long, or the EEPROM not 128 */
@@ -63,7 +63,6 @@ extern "C" {
 #define COWRIESTEP_REFUSED_RANGE_CODE 13     /* an input range code 4 to 7 or above 15 */
 #define COWRIESTEP_REFUSED_POLL_LIMIT 14     /* a poll limit of 0 or above 1,000 */
 #define COWRIESTEP_REFUSED_STUCK 15          /* STS is still 1 at the last poll: the collector is stuck, and answers 15 from then on */
-#define COWRIESTEP_REFUSED_STATUS 16         /* a status that has EF with HF or FF, or OVF without FF */
 #define COWRIESTEP_REFUSED_NO_BYTE 17        /* an answer above 255 to a byte read */
 #define COWRIESTEP_REFUSED_VOLTAGE 18        /* an output voltage below its range, or one whose code is above 4095 */
 #define COWRIESTEP_REFUSED_OUTPUT 19         /* an output range or channel that is unknown */
@@ -461,7 +460,7 @@ struct dmm32_taken {
     struct dmm32_collector collector;        /* the next record; a refusal leaves it, but for the poll that gets stuck */
     uint16_t polls;                          /* polls of this start; with the last sample of a drain, of the start that ends there */
     uint8_t handed;                          /* COWRIESTEP_HANDED_NOTHING, _START_END, _SAMPLE, _LAST_SAMPLE, _REFUSED */
-    uint8_t refusal;                         /* of kind refused: 1 unfit, 15 stuck, 17 no byte, 16 a status that contradicts itself; or the board's own */
+    uint8_t refusal;                         /* of kind refused: 1 unfit, 15 stuck, 17 no byte; or the board's own */
     struct dmm32_sample sample;              /* of kinds sample and last sample */
 };
 
@@ -472,8 +471,9 @@ struct dmm32_taken {
 #define COWRIESTEP_HANDED_REFUSED 4
 
 /*
- * Takes what came of the access that the record names. Told of a refusal, a fit record that is not stuck stays as it is, hands nothing over and answers the
- * refusal's number; an unfit one answers 1 and a stuck one 15, as to anything.
+ * Takes what came of the access that the record names. Of the status read at 7 it goes by EF first, FF next, and reads nothing else: with EF it looks again,
+ * with FF it drains the memory, and with neither it takes one sample. Told of a refusal, a fit record that is not stuck stays as it is, hands nothing over and
+ * answers the refusal's number; an unfit one answers 1 and a stuck one 15, as to anything.
  */
 struct dmm32_taken dmm32_collector_take(struct dmm32_collector collector, struct dmm32_bus_answer brought);
 

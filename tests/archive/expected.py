@@ -40,7 +40,7 @@ class Collector:
             must(board.memory == ledger.waiting(), "the memory is not what was kept since the start")
             board.read(7)
             self.left, board.ends = MEMORY, 0
-            self.phase = "drain" if board.answer & 0x30 else "look" if board.answer & 0x80 else "take"
+            self.phase = "look" if board.answer & 0x80 else "drain" if board.answer & 0x20 else "take"
         elif self.phase != "stuck":
             board.word_read()
             line = ledger.hand(self.next, board.answer)

@@ -138,7 +138,7 @@ static void board_refusals(void) {
     answers("an empty memory", dmm32_read_word(LENT, 0), 0x4000FFFF);
 }
 
-/* ---- the refusals 11 to 17 and 1 of the collector */
+/* ---- the refusals 11 to 15, 17 and 1 of the collector */
 static void refused_start(struct dmm32_settings s, uint8_t number) {
     struct dmm32_start r = dmm32_collector_start(s), zeros = { .refusal = number };
     expect("guest.c", "the refusal of a start", r.refusal, number);
@@ -181,11 +181,23 @@ static void collector_refusals(void) {
     collector = dmm32_collector_start((struct dmm32_settings){ 8, 15, COWRIESTEP_JUMPERS_C, 0, 0, 1 }).collector;
     refused_take(11, 0, 1, 11);
     refused_take(1, 256, 17, 1);
-    refused_take(7, 0xC0, 16, 7);
-    refused_take(7, 0x10, 16, 7);
+    refused_take(7, 256, 17, 7);
     refused_take(1, 0x80, 15, 10);
     refused_take(10, 0, 15, 10);
     expect("guest.c", "the access of a stuck collector", dmm32_collector_access(collector).refusal, 15);
+}
+
+/* Each of the 256 bytes of a look has an outcome: EF (80) looks again, FF (20) without it drains 512, neither takes one. */
+static void looks(void) {
+    collector = dmm32_collector_start((struct dmm32_settings){ 8, 15, COWRIESTEP_JUMPERS_C, 0, 0, 1 }).collector;
+    collector.phase = 7;
+    for (unsigned status = 0; status < 256; status++) {
+        struct dmm32_taken t = dmm32_collector_take(collector, (struct dmm32_bus_answer){ (uint16_t)status, COWRIESTEP_BROUGHT_NUMBER, 0 });
+        unsigned empty = status / 128, full = status / 32 % 2;
+        expect("guest.c", "handed over by a look", t.handed, COWRIESTEP_HANDED_NOTHING);
+        expect("guest.c", "the phase after a look", t.collector.phase, empty ? 7 : full ? 9 : 8);
+        expect("guest.c", "the reads left after a look", t.collector.left, !empty && full ? 512 : 0);
+    }
 }
 
 static void scans(void) {
@@ -209,6 +221,7 @@ int main(void) {
     board_refusals();
     collector_refusals();
     fit();
+    looks();
     scans();
     printf("guest.c: %ld answers compared, %ld differ\n", compared, differ);
     return differ != 0;

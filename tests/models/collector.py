@@ -1,9 +1,9 @@
 #!/usr/bin/env python3
 """A second model of the collector and of whole scans.
 
-Made from the specification ("The collector", "Refusal numbers"), the manual
-(chapters 5.4 and 9.2, registers 7 and 8) and the readings of docs/DECISIONS.md
-alone, without sight of the collector's code or definitions.  What the code may
+Made from the specification ("The collector", "Refusal numbers"), request M-108,
+the manual (chapters 5.4 and 9.2, registers 7 and 8) and the readings of
+docs/DECISIONS.md alone, without sight of the collector's code or definitions.  What the code may
 count is read off something kept here: polls are the reads of 8 in a history of
 accesses, the next channel follows from the samples handed over, reads left are
 a queue of reads to make, and whole scans are found by trying the longest part
@@ -32,7 +32,7 @@ CHANNELS = ({*range(32)}, {*range(16)}, {*range(16)} | {*range(24, 32)}, {*range
 RANGE_CODES = {0, 1, 2, 3, 8, 9, 10, 11, 12, 13, 14, 15}
 
 STS = 0x80                                  # of a read of 8
-EF, HF, FF, OVF = 0x80, 0x40, 0x20, 0x10    # of a read of 7
+EF, FF = 0x80, 0x20                         # of a read of 7
 MEMORY = 512
 
 FIRST, POLL, LOOK, WORD, DRAIN, STUCK = 0, 1, 7, 8, 9, 10
@@ -62,11 +62,6 @@ def accesses(given):
     """The access of each phase: the seven of a start, the look, the one word, a word of a drain."""
     clock = 3 if given.clock else 2
     return ("W9=0", "R8", "W11=%d" % given.code, "W7=2", "W2=%d" % given.low, "W3=%d" % given.high, "W9=%d" % clock, "R7", "X0", "X0")
-
-
-def contradicts(status):
-    """What no memory is: empty and half full or full, or overflowed and not full."""
-    return bool(status & EF and status & (HF | FF) or status & OVF and not status & FF)
 
 
 def signed(word):
@@ -138,8 +133,6 @@ class Collector:
             return access, self.polls()
         if access[0] == "R" and number > 255:
             return "!17", self.polls()
-        if access == "R7" and contradicts(number):
-            return "!16", self.polls()
         self.history += b"8" if access == "R8" else b"."
         polls = self.polls()
         if access == "R8":
@@ -161,10 +154,13 @@ class Collector:
         return "-"
 
     def looked(self, status):
-        if status & (FF | OVF):
+        """By EF first, FF next, and nothing else (M-108)."""
+        if status & EF:
+            return "-"
+        if status & FF:
             self.phase = DRAIN
             self.set_left(MEMORY)
-        elif not status & EF:
+        else:
             self.phase = WORD
         return "-"
 

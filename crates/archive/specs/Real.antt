@@ -1,7 +1,5 @@
 -- The board of `board::step` obeys the laws of a board: a working record with a sample memory of 512 places and an EEPROM of 128 bytes.
 use Prim.Native.Nat.{_≤_}
-use mathlib.Core.Bool.{true}
-use mathlib.Core.Path.{_≡_}
 use native.Mathlib.Omega.{arith}
 use lib.Dec.{eqb}
 use lib.ListN.{length}
@@ -17,15 +15,11 @@ use Rattle.archive.specs.RealWorld as world
 room : (l : State) → Works l → length (real .view l .held) ≤ 512
 room l w = omega (arith, length-queue (l .board .fifo) (l .memory) (w .working .fifo), w .working .fifo .held)
 
-over : (l : State) → Works l → real .view l .ovf ≡ true → 512 ≤ length (real .view l .held)
-over l w o = omega (arith, length-queue (l .board .fifo) (l .memory) (w .working .fifo), w .working .fifo .ovf o)
-
 pub real-laws : Laws real Works
 real-laws =
     record {
       works = works-on;
       room = room;
-      over = over;
       happens = world.happens;
       stops = λ l w. serves l _ _ _ w (bus.stops (holds l));
       polls = bus.polls;

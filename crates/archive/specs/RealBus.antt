@@ -9,37 +9,33 @@ use lib.Dec.{eqb, leb}
 use lib.ListN.{length}
 use Rattle.base.specs.Flags.{on}
 use Rattle.base.specs.Choice.{if_then_else_}
-use Rattle.base.specs.Weights.{weightOf, weight-le}
+use Rattle.base.specs.Weights.{weight-le}
+use Rattle.base.specs.Shown.{shows}
 use Rattle.fifo.specs.Samples.{oldestOf}
-use Rattle.fifo.specs.Queue.{queue, poppedFrom, WorkingFifo}
+use Rattle.fifo.specs.Queue.{queue}
 use Rattle.fifo.specs.Queue.Laws.{length-queue}
-use Rattle.fifo.specs.Flags.{flagBits}
-use Rattle.fifo.specs.declared.Fifo.{Fifo}
 use Rattle.machine_record.specs.View.{singleEnded}
 use Rattle.machine_record.specs.Fits.{single-fits}
 use Rattle.machine_record.specs.declared.Board.{Board}
 use Rattle.bus.specs.Place.{placeOf}
-use Rattle.bus.specs.Bytes.{fifoBits, adBits}
+use Rattle.bus.specs.Bytes.{adBits}
 use Rattle.bus.specs.Registers.{writeChecks, writtenAt, writeEffect, readChecks, byteAt, afterRead, readEffect}
 use Rattle.board_refusal.specs.Refusals.{eventChecks}
 use Rattle.board_step.specs.Act.{acted}
 use Rattle.board_step.specs.Step.{ran}
 use Rattle.board_laws.specs.Held.{Held, heldAnswer, happened}
 use Rattle.board_laws.specs.Begins.{begins}
+use Rattle.board_laws.specs.StatusLaws.{statusByte, status-narrow, ef-shown, ff-shown}
 use Rattle.board_events.specs.declared.Answer.the-variants.{Done, Byte, Word}
 use Rattle.board_events.specs.declared.Event.the-variants.{WriteByte, ReadByte, ReadWord}
 use Rattle.board_step.specs.States.{State, Works}
 use Rattle.archive_turns.specs.Real.{real}
-use Rattle.archive_demand.specs.Bits.{StatusFlags, sts-shown, ef-shown, hf-shown, ff-shown, ovf-shown, status-narrow}
 use Rattle.archive_demand.specs.Laws.{clkenWritten, fifoCleared, lowWritten, highWritten, leaving, Serves, Polls, Looks, Fetches}
 use Rattle.archive.specs.RealViews.{holds, viewOf, Makes, serves}
 
--- the bytes that are read at 8 and at 7
+-- the byte that is read at 8
 abbrev polled : Board → ℕ
 polled b = adBits (b .converter) (b .wiring .inputs)
-
-abbrev looked : Board → ℕ
-looked b = fifoBits (b .fifo) (b .converter) (b .requests) (b .registers .page)
 
 module _ (h : Held) where
   -- ---- the writes of a start
@@ -83,7 +79,7 @@ module _ (h : Held) where
   unfolding heldAnswer happened eventChecks readChecks placeOf ran acted byteAt afterRead readEffect begins
   poll = record { answers = refl; leaves = refl; begins-none = refl }
 
-  look : Makes h (ReadByte 7) (Byte (looked (h .board))) (viewOf h)
+  look : Makes h (ReadByte 7) (Byte (statusByte (h .board))) (viewOf h)
   unfolding heldAnswer happened eventChecks readChecks placeOf ran acted byteAt afterRead readEffect begins
   look = record { answers = refl; leaves = refl; begins-none = refl }
 
@@ -91,11 +87,10 @@ module _ (h : Held) where
   unfolding heldAnswer happened eventChecks ran acted begins
   fetch = record { answers = refl; leaves = refl; begins-none = refl }
 
-  -- the word read takes the oldest sample, and OVF clears
-  fetched : (c : ℕ) (rest : List ℕ) → h .samples ≡ c ∷ rest → eqb (h .board .fifo .held) 0 ≡ false
-      → viewOf (happened h (ReadWord 0)) ≡ leaving rest (viewOf h)
-  unfolding happened eventChecks ran acted poppedFrom
-  fetched c rest e z = rw (e, z)
+  -- the word read takes the oldest sample
+  fetched : (c : ℕ) (rest : List ℕ) → h .samples ≡ c ∷ rest → viewOf (happened h (ReadWord 0)) ≡ leaving rest (viewOf h)
+  unfolding happened eventChecks ran acted
+  fetched c rest e = rw e
 
 -- ---- the poll: STS
 pub polls : (l : State) → Works l → Polls real l
@@ -106,11 +101,11 @@ polls l w =
       narrow =
           le-ltb 255 (polled (l .board)) (omega (arith, weight-le (on (l .board .converter .converting)) 128, single-fits (l .board .wiring .inputs)));
       sts =
-          sts-shown (on (l .board .converter .converting)) (l .board .converter .selected % 32) (singleEnded (l .board .wiring .inputs)) (omega arith)
-          (single-fits (l .board .wiring .inputs));
+          shows (polled (l .board)) 0 7 (l .board .converter .selected % 32 + singleEnded (l .board .wiring .inputs)) (on (l .board .converter .converting))
+          (omega arith) (omega (arith, single-fits (l .board .wiring .inputs)));
     }
 
--- ---- the look: EF, HF, FF and OVF
+-- ---- the look: EF and FF
 empty-flag : (n : ℕ) → eqb n 0 ≡ leb n 0
 empty-flag n = by (leb n 0) refl
   where
@@ -126,28 +121,18 @@ full-flag n h = by (leb 512 n) refl
     by false e = ne-eqb n 512 (λ z. omega (arith, leb-false 512 n e))
 
 pub looks : (l : State) → Works l → Looks real l
-unfolding flagBits
 looks l w =
     let f = l .board .fifo in
     let e : length (queue f (l .memory)) ≡ f .held = length-queue f (l .memory) (w .working .fifo) in
-    let n : ℕ = weightOf (on (l .board .requests .fifoen)) 8 + weightOf (on (l .board .converter .scanen)) 4 in
-    let m : ℕ = l .board .registers .page % 4 in
-    let r : n + m ≤ 15 = omega (arith, weight-le (on (l .board .requests .fifoen)) 8, weight-le (on (l .board .converter .scanen)) 4) in
-    let s : StatusFlags = record { ef = eqb (f .held) 0; hf = leb 256 (f .held); ff = eqb (f .held) 512; ovf = on (f .ovf) } in
     record {
-      byte = looked (l .board);
+      byte = statusByte (l .board);
       serves = serves l _ _ _ w (look (holds l));
-      narrow = le-ltb 255 (looked (l .board)) (status-narrow s n m r);
-      ef = ef-shown s n m r ∙ empty-flag (f .held) ∙ ap (λ (k : ℕ). leb k 0) (sym e);
-      hf = hf-shown s n m r ∙ ap (λ (k : ℕ). leb 256 k) (sym e);
-      ff = ff-shown s n m r ∙ full-flag (f .held) (w .working .fifo .held) ∙ ap (λ (k : ℕ). leb 512 k) (sym e);
-      ovf = ovf-shown s n m r;
+      narrow = le-ltb 255 (statusByte (l .board)) (status-narrow (l .board));
+      ef = ef-shown (l .board) ∙ empty-flag (f .held) ∙ ap (λ (k : ℕ). leb k 0) (sym e);
+      ff = ff-shown (l .board) ∙ full-flag (f .held) (w .working .fifo .held) ∙ ap (λ (k : ℕ). leb 512 k) (sym e);
     }
 
 -- ---- the word read
-some-held : (f : Fifo) (m : List ℕ) (c : ℕ) (rest : List ℕ) → WorkingFifo f m → queue f m ≡ c ∷ rest → eqb (f .held) 0 ≡ false
-some-held f m c rest w e = ne-eqb (f .held) 0 (λ z. omega (arith, length-queue f m w, ap length e))
-
 pub words : (l : State) → Works l → Fetches real l
 words l w =
     let s : Serves real l (ReadWord 0) (Word (oldestOf (holds l .samples))) (viewOf (happened (holds l) (ReadWord 0))) =
@@ -157,5 +142,5 @@ words l w =
       answers = s .answers;
       begins-none = s .begins-none;
       oldest = λ c rest e. ap oldestOf e;
-      leaves = λ c rest e. s .leaves ∙ fetched (holds l) c rest e (some-held (l .board .fifo) (l .memory) c rest (w .working .fifo) e);
+      leaves = λ c rest e. s .leaves ∙ fetched (holds l) c rest e;
     }

@@ -5,7 +5,6 @@ use mathlib.Core.Bool.{Bool, true, false, _&&_}
 use mathlib.Core.Option.{none}
 use mathlib.Core.Path.{_≡_, refl, sym, ap, subst, _∙_}
 use lib.Dec.{eqb}
-use Rattle.base.specs.Flags.{on}
 use Rattle.base.specs.Choice.{if_then_else_}
 use Rattle.board_laws.specs.Held.{Held, eventNumber, heldAnswer, happened, heldIn, number-working, step-held}
 use Rattle.board_events.specs.declared.Answer.{Answer}
@@ -21,7 +20,7 @@ abbrev pub holds : State → Held
 holds l = heldIn (l .board) (l .memory) (l .eeprom)
 
 abbrev pub viewOf : Held → View
-viewOf h = record { converter = h .board .converter; held = h .samples; ovf = on (h .board .fifo .ovf) }
+viewOf h = record { converter = h .board .converter; held = h .samples }
 
 -- no check of the event refuses it
 abbrev pub isPassed : Held → Event → Bool

@@ -1,24 +1,20 @@
 -- The world's events on the board of `board::step` (the specification, "Conversions, edges and requests"): an edge or a tick may begin a
 -- conversion, a conversion's end ends one and may begin the next, and no other event touches conversions or samples.
-use Prim.Native.Nat.{ℕ, _+_}
+use Prim.Native.Nat.{ℕ}
 use mathlib.Core.Bool.{Bool, true, false, not, _&&_}
 use mathlib.Core.Option.{none, some}
 use mathlib.Core.Path.{_≡_, refl, sym, ap, _∙_}
 use lib.IntN.{ℤ}
-use lib.Dec.{eqb, ltb}
-use lib.ListN.{length}
+use lib.Dec.{eqb}
 use mir.Syntax.{w16}
 use mir.Val.{SFits}
 use Rattle.base.specs.Flags.{on}
 use Rattle.base.specs.Laws.{both, not-true}
 use Rattle.base.specs.Choice.{if_then_else_}
-use Rattle.fifo.specs.Samples.{oldestOf, pushed}
-use Rattle.fifo.specs.Queue.{pushedTo}
-use Rattle.fifo.specs.Queue.Laws.{length-queue}
-use Rattle.fifo.specs.declared.Fifo.{Fifo}
-use Rattle.converter.specs.Channels.{ended, externalTrigger}
+use Rattle.fifo.specs.Samples.{oldestOf}
+use Rattle.converter.specs.Channels.{externalTrigger}
 use Rattle.converter.specs.Begins.{trigger-lost}
-use Rattle.converter.specs.Codes.{sampleOf, code-of-sample}
+use Rattle.converter.specs.Codes.{code-of-sample}
 use Rattle.converter.specs.declared.channels.Converter.{Converter}
 use Rattle.machine_tick.specs.Tick.{dividersTicked, counter0Ticked}
 use Rattle.machine_pins.specs.Pins.{fellFrom, dinMoved, triggersStopped, latchSet, portSet}
@@ -46,7 +42,7 @@ left h ev = record { board = ranHeld h ev .board; samples = ranHeld h ev .sample
 
 -- the view with another converter
 abbrev converted : View → Converter → View
-converted v c = record { converter = c; held = v .held; ovf = v .ovf }
+converted v c = record { converter = c; held = v .held }
 
 -- ---- edges and ticks
 -- an event that ends nothing, begins a conversion where the test says so, and else leaves the view
@@ -115,39 +111,25 @@ module _ (h : Held) where
   transfer-happens = still h (left h TransferEnd) (isPassed h TransferEnd) refl
 
 -- ---- an end
--- the memory's record after it, told by the samples held
-pushed-ovf : (f : Fifo) (n : ℕ) → n ≡ f .held → on (pushedTo f .ovf) ≡ (if ltb n 512 then on (f .ovf) else true)
-unfolding pushedTo
-pushed-ovf f n e = rw e (by (ltb (f .held) 512))
-  where
-    by : (t : Bool)
-        → on ((if_then_else_ {A = Fifo} t (record { held = f .held + 1; ovf = f .ovf }) (record { held = f .held; ovf = 1 })) .ovf)
-        ≡ (if t then on (f .ovf) else true)
-    by true = refl
-    by false = refl
-
-end-happens : (h : Held) (code : ℤ) → SFits w16 code → length (h .samples) ≡ h .board .fifo .held → HeldHappens h (ConversionEnd code)
+end-happens : (h : Held) (code : ℤ) → SFits w16 code → HeldHappens h (ConversionEnd code)
 unfolding happened eventChecks ran acted begins
-end-happens h code fits e = by (on (h .board .converter .converting)) refl
+end-happens h code fits = by (on (h .board .converter .converting)) refl
   where
     by : (t : Bool) → on (h .board .converter .converting) ≡ t
         → Happens (eqb (if not t then 4 else 0) 0 && begins (h .board) (ConversionEnd code)) (if eqb (if not t then 4 else 0) 0 then some code else none)
         (viewOf h) (viewOf (if eqb (if not t then 4 else 0) 0 then left h (ConversionEnd code) else h))
-    by true k =
-        end code (code-of-sample code fits) refl refl k
-        (ap (λ (o : Bool). record { converter = ended (h .board .converter); held = pushed (h .samples) (sampleOf code); ovf = o })
-        (pushed-ovf (h .board .fifo) (length (h .samples)) e))
+    by true k = end code (code-of-sample code fits) refl refl k refl
     by false k = quiet refl refl refl
 
 -- ---- any
-held-happens : (h : Held) (w : World) → length (h .samples) ≡ h .board .fifo .held → HeldHappens h (eventIn w)
-held-happens h (conversion-end code fits) e = end-happens h code fits e
-held-happens h (din-pins d) e = din-happens h d
-held-happens h (latch-level level) e = latch-happens h level
-held-happens h (port-pins q v) e = port-happens h q v
-held-happens h tick e = tick-happens h
-held-happens h transfer-end e = transfer-happens h
+held-happens : (h : Held) (w : World) → HeldHappens h (eventIn w)
+held-happens h (conversion-end code fits) = end-happens h code fits
+held-happens h (din-pins d) = din-happens h d
+held-happens h (latch-level level) = latch-happens h level
+held-happens h (port-pins q v) = port-happens h q v
+held-happens h tick = tick-happens h
+held-happens h transfer-end = transfer-happens h
 
 pub happens : (l : State) (w : World) → Works l
     → Happens (real .begins l (eventIn w)) (real .ends l (eventIn w)) (real .view l) (real .view (real .stepped l (eventIn w)))
-happens l w k = happens-held l (eventIn w) k (held-happens (holds l) w (length-queue (l .board .fifo) (l .memory) (k .working .fifo)))
+happens l w k = happens-held l (eventIn w) k (held-happens (holds l) w)

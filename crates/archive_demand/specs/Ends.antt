@@ -10,7 +10,6 @@ use lib.Dec.{ltb}
 use lib.ListN.{length, length-append}
 use borrow.Author.Tests.{ltb-true, ltb-false, lt-ltb, leb-true}
 use Rattle.base.specs.Flags.{on}
-use Rattle.base.specs.Choice.{if_then_else_}
 use Rattle.fifo.specs.Samples.{pushed}
 use Rattle.converter.specs.Channels.{idle}
 use Rattle.converter.specs.Codes.{sampleOf, codeOf}
@@ -54,7 +53,7 @@ sample channel code = record { channel = channel; code = code }
 
 -- the view after an end that begins no other conversion
 abbrev pub afterEnd : ℕ → View → View
-afterEnd c v = record { converter = idle (v .converter); held = pushed (v .held) c; ovf = if ltb (length (v .held)) 512 then v .ovf else true }
+afterEnd c v = record { converter = idle (v .converter); held = pushed (v .held) c }
 
 -- an end: one more sample, behind all the others
 pub queue-end : (t : Settings) (next : ℕ) (v : View) (l : Log) (Q L : List Sample) (code : ℤ) (ch : ℕ) → codeOf (sampleOf code) ≡ code

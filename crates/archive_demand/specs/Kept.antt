@@ -26,7 +26,7 @@ use Rattle.collector.specs.Handed.{samplesOf, gapMarked}
 use Rattle.collector.specs.Handed.{is-go}
 use Rattle.collector.specs.Steps.{Step, step}
 use Rattle.collector.specs.Steps.{stopped, poll-wide, poll-free, poll-again, poll-last, ranged, cleared, lowered, raised, went}
-use Rattle.collector.specs.Steps.{look-wide, look-contradicts, look-empty, look-full, look-few}
+use Rattle.collector.specs.Steps.{look-wide, look-empty, look-full, look-few}
 use Rattle.archive_turns.specs.Machine.{View, Machine}
 use Rattle.archive_turns.specs.Turn.{Turning, eventOf, turnBy}
 use Rattle.archive_turns.specs.Hosts.{words}
@@ -34,7 +34,7 @@ use Rattle.archive_demand.specs.Log.{Log, noteTurn, bringsBy, beginsBy, 
 use Rattle.archive_demand.specs.Laws.{Laws, Serves, Fetches, clkenWritten}
 use Rattle.archive_demand.specs.Laws as view
 use Rattle.archive_demand.specs.Phases.{Idle, no-loss, FactOf}
-use Rattle.archive_demand.specs.Sights.{status, no-contradiction, shows-some, shows-all, shows-few}
+use Rattle.archive_demand.specs.Sights.{status, shows-some, shows-all, shows-few}
 use Rattle.archive_demand.specs.Turns.{still, idle-on, quiet-on, running-on, looking-on, look-some, look-all}
 use Rattle.archive_demand.specs.Fetched.{Now, After, take-after, drain-after}
 
@@ -117,14 +117,13 @@ module _ (M : Machine) (Working : M .Board → Type 0) (laws : Laws M Working) w
         → After M b c l (ReadByte 7) (status M Working laws b wk) r v
     unfolding phaseOf
     look-after r p (look-wide e) k = never (sym (laws .looks b wk .narrow) ∙ e)
-    look-after r p (look-contradicts e d) k = absurd (no-contradiction M Working laws b wk d)
-    look-after r p (look-empty e d f) k =
+    look-after r p (look-empty e f) k =
         rw (still (ReadByte 7) (status M Working laws b wk) ch l refl, p)
         (running-on l _ t (c .next) (k .0), λ w. looking-on l _ t (c .next) v (k .1 w))
-    look-after r p (look-full e d f g) k =
+    look-after r p (look-full e f g) k =
         rw (still (ReadByte 7) (status M Working laws b wk) ch l refl)
         (running-on l _ t (c .next) (k .0), λ w. look-all t (c .next) v l _ (shows-all M Working laws b wk g) (k .1 w))
-    look-after r p (look-few e d f g) k =
+    look-after r p (look-few e f g) k =
         rw (still (ReadByte 7) (status M Working laws b wk) ch l refl, f, g) (
           running-on l (some 0) t (c .next) (k .0),
           λ w. look-some t (c .next) v l (shows-some M Working laws b wk f) (shows-few M Working laws b wk g) (k .1 w),

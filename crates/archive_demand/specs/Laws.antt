@@ -5,10 +5,9 @@ use mathlib.Core.List.{List, [], _∷_}
 use mathlib.Core.Option.{Option, none, some}
 use mathlib.Core.Path.{_≡_}
 use lib.IntN.{ℤ}
-use lib.Dec.{ltb, leb}
+use lib.Dec.{leb}
 use lib.ListN.{length}
 use Rattle.base.specs.Flags.{on}
-use Rattle.base.specs.Choice.{if_then_else_}
 use Rattle.fifo.specs.Samples.{pushed}
 use Rattle.converter.specs.Channels.{started, endStarts, ended}
 use Rattle.converter.specs.Codes.{sampleOf, codeOf}
@@ -19,43 +18,37 @@ use Rattle.board_events.specs.declared.Event.{Event}
 use Rattle.board_events.specs.declared.Event.the-variants.{WriteByte, ReadByte, ReadWord}
 use Rattle.collector_settings.specs.declared.Settings.{Settings}
 use Rattle.collector_settings.specs.Settings.{clockByte}
-use Rattle.collector_answers.specs.Answers.{wide, STS, EF, HF, FF, OVF}
+use Rattle.collector_answers.specs.Answers.{wide, STS, EF, FF}
 use Rattle.archive_turns.specs.Machine.{View, Machine}
 use Rattle.archive_demand.specs.World.{World, eventIn}
 
 -- ---- what events make of the view
 -- a conversion begins on the selected channel, and the selection moves
 abbrev pub starting : View → View
-starting v = record { converter = started (v .converter); held = v .held; ovf = v .ovf }
+starting v = record { converter = started (v .converter); held = v .held }
 
--- a conversion ends: its sample is kept if there is room, else lost and OVF set; in a scan that is not at the high channel the next begins
+-- a conversion ends: its sample is kept if there is room, else lost; in a scan that is not at the high channel the next begins
 abbrev pub ending : ℕ → View → View
-ending sample v =
-    record {
-      converter = ended (v .converter);
-      held = pushed (v .held) sample;
-      ovf = if ltb (length (v .held)) 512 then v .ovf else true;
-    }
+ending sample v = record { converter = ended (v .converter); held = pushed (v .held) sample }
 
 -- CLKEN is written
 abbrev pub clkenWritten : ℕ → View → View
-clkenWritten clken v =
-    record { converter = withBits (v .converter) (v .converter .scanen) clken; held = v .held; ovf = v .ovf }
+clkenWritten clken v = record { converter = withBits (v .converter) (v .converter .scanen) clken; held = v .held }
 
--- 7←02: SCANEN off, the memory emptied, OVF cleared
+-- 7←02: SCANEN off, the memory emptied
 abbrev pub fifoCleared : View → View
-fifoCleared v = record { converter = withBits (v .converter) 0 (v .converter .clken); held = []; ovf = false }
+fifoCleared v = record { converter = withBits (v .converter) 0 (v .converter .clken); held = [] }
 
 -- the low and the high channel are written: either makes low the selected channel
 abbrev pub lowWritten : ℕ → View → View
-lowWritten n v = record { converter = withChannels (v .converter) n (v .converter .high); held = v .held; ovf = v .ovf }
+lowWritten n v = record { converter = withChannels (v .converter) n (v .converter .high); held = v .held }
 
 abbrev pub highWritten : ℕ → View → View
-highWritten n v = record { converter = withChannels (v .converter) (v .converter .low) n; held = v .held; ovf = v .ovf }
+highWritten n v = record { converter = withChannels (v .converter) (v .converter .low) n; held = v .held }
 
 -- the oldest sample has left
 abbrev pub leaving : List ℕ → View → View
-leaving rest v = record { converter = v .converter; held = rest; ovf = false }
+leaving rest v = record { converter = v .converter; held = rest }
 
 -- ---- what an event of the world may do, where `begins` and `e` tell whether it begins a conversion and the code of the one it ends
 pub data Happens (begins : Bool) (e : Option ℤ) (v v′ : View) : Type 0 where
@@ -77,15 +70,13 @@ pub record Polls (M : Machine) (b : M .Board) : Type 0 where
   pub narrow : wide byte ≡ false
   pub sts : STS byte ≡ on (M .view b .converter .converting)
 
--- a look: EF, HF, FF and OVF
+-- a look: EF and FF
 pub record Looks (M : Machine) (b : M .Board) : Type 0 where
   pub byte : ℕ
   pub serves : Serves M b (ReadByte 7) (Byte byte) (M .view b)
   pub narrow : wide byte ≡ false
   pub ef : EF byte ≡ leb (length (M .view b .held)) 0
-  pub hf : HF byte ≡ leb 256 (length (M .view b .held))
   pub ff : FF byte ≡ leb 512 (length (M .view b .held))
-  pub ovf : OVF byte ≡ M .view b .ovf
 
 -- a word read: the oldest sample, which leaves
 pub record Fetches (M : Machine) (b : M .Board) : Type 0 where
@@ -96,10 +87,9 @@ pub record Fetches (M : Machine) (b : M .Board) : Type 0 where
   pub leaves : (c : ℕ) (h : List ℕ) → M .view b .held ≡ c ∷ h → M .view (M .stepped b (ReadWord 0)) ≡ leaving h (M .view b)
 
 pub record Laws (M : Machine) (Working : M .Board → Type 0) : Type 0 where
-  -- a working board stays one, holds at most 512 samples, and has OVF only at 512 held
+  -- a working board stays one, and holds at most 512 samples
   pub works : (b : M .Board) (ev : Event) → Working b → Working (M .stepped b ev)
   pub room : (b : M .Board) → Working b → length (M .view b .held) ≤ 512
-  pub over : (b : M .Board) → Working b → M .view b .ovf ≡ true → 512 ≤ length (M .view b .held)
   -- the world
   pub happens : (b : M .Board) (w : World) → Working b
       → Happens (M .begins b (eventIn w)) (M .ends b (eventIn w)) (M .view b) (M .view (M .stepped b (eventIn w)))

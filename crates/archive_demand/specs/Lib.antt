@@ -17,7 +17,6 @@ pub mod Told
 pub mod Looked
 pub mod Starts
 pub mod Theorem
-pub mod Bits
 pub mod Small
 pub mod SmallLaws
 pub mod Reads

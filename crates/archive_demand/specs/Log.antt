@@ -12,7 +12,7 @@ use Rattle.board_events.specs.Answers.{valueRead}
 use Rattle.collector_phases.specs.declared.Access.{Access}
 use Rattle.collector_phases.specs.declared.Access.the-variants.{WriteByte, ReadByte, ReadWord, NoAccess}
 use Rattle.samples.specs.declared.Sample.{Sample}
-use Rattle.collector_answers.specs.Answers.{EF, isFull}
+use Rattle.collector_answers.specs.Answers.{EF, FF}
 use Rattle.collector.specs.Handed.{isGo}
 use Rattle.archive_turns.specs.declared.Asked.{Asked}
 use Rattle.archive_turns.specs.declared.Asked.the-variants.{Made, NotMade}
@@ -72,7 +72,7 @@ noteWorld e begins selected l =
 -- the stretch of the limit begins at a look that shows the memory neither empty nor full, and ends at a word read
 abbrev pub stretch : Access → ℕ → Option ℕ → Option ℕ
 stretch (WriteByte o v) a k = k
-stretch (ReadByte o) a k = if eqb o 7 then if EF a || isFull a then none else some 0 else k
+stretch (ReadByte o) a k = if eqb o 7 then if EF a || FF a then none else some 0 else k
 stretch (ReadWord o) a k = none
 stretch (NoAccess n) a k = k
 

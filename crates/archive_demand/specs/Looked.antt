@@ -22,14 +22,13 @@ use Rattle.collector_phases.specs.Accesses.{accessOf}
 use Rattle.collector_replies.specs.Reply.{replied}
 use Rattle.collector.specs.Handed.{samplesOf, gapMarked}
 use Rattle.collector.specs.Steps.{Step, access-fit}
-use Rattle.collector.specs.Steps.{look-wide, look-contradicts, look-empty}
-use Rattle.collector.specs.Steps.{look-full, look-few}
+use Rattle.collector.specs.Steps.{look-wide, look-empty, look-full, look-few}
 use Rattle.archive_turns.specs.Machine.{View, Machine}
 use Rattle.archive_turns.specs.Hosts.{words}
 use Rattle.archive_demand.specs.Run.{turn, Run, begin, _▸_, System, turning, next, given, gap, after, givenIn, gapsIn, turns}
 use Rattle.archive_demand.specs.Demand.{codesOf, codesIn, owed, look}
 use Rattle.archive_demand.specs.Laws.{Laws}
-use Rattle.archive_demand.specs.Sights.{status, no-contradiction, shows-none, shows-some, shows-all, shows-few}
+use Rattle.archive_demand.specs.Sights.{status, shows-none, shows-some, shows-all, shows-few}
 use Rattle.archive_demand.specs.Invariant.{Sound, sound}
 use Rattle.archive_demand.specs.Yields.{Stage, marked, Owing, owing, turn-of, step-in}
 
@@ -96,8 +95,7 @@ module _ (M : Machine) (Working : M .Board → Type 0) (laws : Laws M Working) w
     opens : (r : Taken) → Step (x .collector) a Look r → Open r
     unfolding phaseOf
     opens r (look-wide e) = never (sym (laws .looks (x .board) wk .narrow) ∙ e)
-    opens r (look-contradicts e d) = absurd (no-contradiction M Working laws (x .board) wk d)
-    opens r (look-empty e d f) =
+    opens r (look-empty e f) =
         let n : length h ≡ 0 = shows-none M Working laws (x .board) wk f in
         let o = owed-none h n in
         record {
@@ -110,7 +108,7 @@ module _ (M : Machine) (Working : M .Board → Type 0) (laws : Laws M Working) w
           stage = rw (o .0) p;
           mark = rw (o .0);
         }
-    opens r (look-full e d f g) =
+    opens r (look-full e f g) =
         let n : length h ≡ 512 = shows-all M Working laws (x .board) wk g in
         let o = owed-all h n in
         let u = first-of h (omega arith) in
@@ -124,7 +122,7 @@ module _ (M : Machine) (Working : M .Board → Type 0) (laws : Laws M Working) w
           stage = rw (o .0) (refl, sym n ∙ ap length (u .2));
           mark = refl;
         }
-    opens r (look-few e d f g) =
+    opens r (look-few e f g) =
         let n : 1 ≤ length h = shows-some M Working laws (x .board) wk f in
         let o = owed-one h n (shows-few M Working laws (x .board) wk g) in
         let u = first-of h n in

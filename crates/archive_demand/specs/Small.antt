@@ -22,17 +22,16 @@ use Rattle.board_events.specs.declared.Answer.the-variants.{Done, Byte, Word}
 use Rattle.board_events.specs.declared.Event.{Event}
 use Rattle.board_events.specs.declared.Event.the-variants.{WriteByte, ReadByte, ReadWord, ConversionEnd, DinPins, LatchLevel, PortPins, Tick, TransferEnd}
 use Rattle.archive_turns.specs.Machine.{View, Machine}
-use Rattle.archive_demand.specs.Bits.{StatusFlags, statusByte}
 use Rattle.archive_demand.specs.Laws.{starting, ending, clkenWritten, lowWritten, highWritten, leaving}
 
 -- ---- the bus
--- 7: SCANEN is stored, also beside FIFORST, which empties the memory and clears OVF
+-- 7: SCANEN is stored, also beside FIFORST, which empties the memory
 abbrev pub scanned : View → ℕ → View
 scanned v x =
-    record { converter = withBits (v .converter) (field x 2 1) (v .converter .clken); held = v .held; ovf = v .ovf }
+    record { converter = withBits (v .converter) (field x 2 1) (v .converter .clken); held = v .held }
 
 abbrev pub emptied : View → View
-emptied v = record { converter = v .converter; held = []; ovf = false }
+emptied v = record { converter = v .converter; held = [] }
 
 abbrev pub fifoControlled : View → ℕ → View
 fifoControlled v x = if FIFORST x then emptied (scanned v x) else scanned v x
@@ -46,13 +45,12 @@ written v n x =
     else if eqb n 9 then clkenWritten (field x 1 1) v
     else v
 
--- 7: EF HF FF OVF, SCANEN; 8: STS, single-ended inputs, ADCH4-0
-abbrev pub flagsOf : View → StatusFlags
-flagsOf v =
-    record { ef = leb (length (v .held)) 0; hf = leb 256 (length (v .held)); ff = leb 512 (length (v .held)); ovf = v .ovf }
+-- 7: EF and FF, and no other bit; 8: STS, single-ended inputs, ADCH4-0
+abbrev pub flagByte : Bool → Bool → ℕ
+flagByte ef ff = weightOf ef 128 + weightOf ff 32
 
 abbrev pub fifoByte : View → ℕ
-fifoByte v = statusByte (flagsOf v) (weightOf (on (v .converter .scanen)) 4) 0
+fifoByte v = flagByte (leb (length (v .held)) 0) (leb 512 (length (v .held)))
 
 abbrev pub adByte : View → ℕ
 adByte v = statusBits (v .converter) + 96

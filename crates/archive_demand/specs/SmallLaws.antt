@@ -3,16 +3,17 @@ use Prim.Native.Nat.{ℕ, _+_, _%_, _≤_}
 use mathlib.Core.Bool.{Bool, true, false, not, _&&_}
 use mathlib.Core.List.{List, [], _∷_, _++_}
 use mathlib.Core.Option.{none, some}
-use mathlib.Core.Path.{_≡_, refl, sym, ap, _∙_}
+use mathlib.Core.Path.{_≡_, refl, ap}
 use native.Mathlib.Omega.{arith}
-use borrow.Author.Tests.{le-ltb, ltb-true, ltb-false}
+use borrow.Author.Tests.{le-ltb, ltb-true}
 use lib.IntN.{ℤ}
-use lib.Dec.{eqb, ltb}
+use lib.Dec.{eqb, ltb, leb}
 use lib.ListN.{length, length-append}
 use Rattle.base.specs.Flags.{on}
 use Rattle.base.specs.Choice.{if_then_else_}
-use Rattle.base.specs.Laws.{by-choice, never}
-use Rattle.base.specs.Weights.{weightOf, weight-le}
+use Rattle.base.specs.Laws.{by-choice}
+use Rattle.base.specs.Weights.{weight-le}
+use Rattle.base.specs.Shown.{shows}
 use Rattle.fifo.specs.Samples.{oldestOf, pushed}
 use Rattle.converter.specs.Channels.{endStarts}
 use Rattle.converter.specs.Codes.{sampleOf, codeOf, code-of-sample}
@@ -20,52 +21,48 @@ use Rattle.requests.specs.Registers.{FIFORST}
 use Rattle.board_events.specs.declared.Answer.the-variants.{Done}
 use Rattle.board_events.specs.declared.Event.{Event}
 use Rattle.board_events.specs.declared.Event.the-variants.{WriteByte, ReadByte, ReadWord, ConversionEnd, DinPins, LatchLevel, PortPins, Tick, TransferEnd}
+use Rattle.collector_answers.specs.Answers.{wide, EF, FF}
 use Rattle.archive_turns.specs.Machine.{View}
 use Rattle.archive_demand.specs.World.{World, conversion-end, din-pins, latch-level, port-pins, tick, transfer-end, eventIn}
-use Rattle.archive_demand.specs.Bits.{sts-shown, ef-shown, hf-shown, ff-shown, ovf-shown, status-narrow}
 use Rattle.archive_demand.specs.Laws.{starting, ending, clkenWritten, lowWritten, highWritten}
 use Rattle.archive_demand.specs.Laws.{Happens, quiet, trigger, end, Serves, Polls, Looks, Fetches, Laws}
-use Rattle.archive_demand.specs.Small.{small, smallStep, smallBegins, smallEnds, edgeBegins, written, fifoByte, adByte, fetched, flagsOf}
+use Rattle.archive_demand.specs.Small.{small, smallStep, smallBegins, smallEnds, edgeBegins, written, flagByte, fifoByte, adByte, fetched}
 
--- ---- a small board works while it holds at most 512 samples, and has OVF only at 512
+-- ---- a small board works while it holds at most 512 samples
 pub record SmallWorks (v : View) : Type 0 where
   pub room : length (v .held) ≤ 512
-  pub over : v .ovf ≡ true → 512 ≤ length (v .held)
 
 ending-works : (v : View) (s : ℕ) → SmallWorks v → SmallWorks (ending s v)
 unfolding pushed
-ending-works v s k = let p = by (ltb (length (v .held)) 512) refl in record { room = p .0; over = p .1 }
+ending-works v s k = record { room = by (ltb (length (v .held)) 512) refl }
   where
-    by : (t : Bool) → ltb (length (v .held)) 512 ≡ t
-        → (length (if t then v .held ++ s ∷ [] else v .held) ≤ 512)
-        × ((if t then v .ovf else true) ≡ true → 512 ≤ length (if t then v .held ++ s ∷ [] else v .held))
+    by : (t : Bool) → ltb (length (v .held)) 512 ≡ t → length (if t then v .held ++ s ∷ [] else v .held) ≤ 512
     by true e =
         let l : length (v .held ++ s ∷ []) ≡ length (v .held) + 1 = length-append (v .held) (s ∷ []) in
-        (omega (arith, ltb-true (length (v .held)) 512 e), λ o. omega (arith, k .over o))
-    by false e = (k .room, λ o. ltb-false (length (v .held)) 512 e)
+        omega (arith, ltb-true (length (v .held)) 512 e)
+    by false e = k .room
 
 fetched-works : (v : View) (l : List ℕ) → length l ≤ 512 → SmallWorks v → SmallWorks (fetched v l)
 fetched-works v [] h k = k
-fetched-works v (c ∷ rest) h k = record { room = omega arith; over = λ o. never o }
+fetched-works v (c ∷ rest) h k = record { room = omega arith }
 
--- a view with the same samples and OVF
-alike : (v v′ : View) → v′ .held ≡ v .held → v′ .ovf ≡ v .ovf → SmallWorks v → SmallWorks v′
-alike v v′ e o k = record { room = rw e (k .room); over = λ t. rw e (k .over (sym o ∙ t)) }
+-- a view with the same samples
+alike : (v v′ : View) → v′ .held ≡ v .held → SmallWorks v → SmallWorks v′
+alike v v′ e k = record { room = rw e (k .room) }
 
 written-works : (v : View) (n x : ℕ) → SmallWorks v → SmallWorks (written v n x)
 written-works v n x k =
-    by-choice SmallWorks (eqb n 2) (alike v _ refl refl k)
-    (by-choice SmallWorks (eqb n 3) (alike v _ refl refl k)
-    (by-choice SmallWorks (eqb n 7)
-    (by-choice SmallWorks (FIFORST x) (record { room = omega arith; over = λ o. never o }) (alike v _ refl refl k))
-    (by-choice SmallWorks (eqb n 9) (alike v _ refl refl k) k)))
+    by-choice SmallWorks (eqb n 2) (alike v _ refl k)
+    (by-choice SmallWorks (eqb n 3) (alike v _ refl k)
+    (by-choice SmallWorks (eqb n 7) (by-choice SmallWorks (FIFORST x) (record { room = omega arith }) (alike v _ refl k))
+    (by-choice SmallWorks (eqb n 9) (alike v _ refl k) k)))
 
 small-works : (v : View) (ev : Event) → SmallWorks v → SmallWorks (smallStep v ev)
 small-works v (WriteByte n x) k = written-works v n x k
 small-works v (ReadByte n) k = k
 small-works v (ReadWord n) k = by-choice SmallWorks (eqb n 0) (fetched-works v (v .held) (k .room) k) k
 small-works v (ConversionEnd code) k = by-choice SmallWorks (on (v .converter .converting)) (ending-works v (sampleOf code) k) k
-small-works v (DinPins d) k = by-choice SmallWorks (edgeBegins v) (alike v _ refl refl k) k
+small-works v (DinPins d) k = by-choice SmallWorks (edgeBegins v) (alike v _ refl k) k
 small-works v (LatchLevel level) k = k
 small-works v (PortPins q x) k = k
 small-works v Tick k = k
@@ -102,22 +99,19 @@ polls v =
       byte = adByte v;
       serves = record { answers = refl; leaves = refl; begins-none = refl };
       narrow = le-ltb 255 (adByte v) (omega (arith, weight-le (on (v .converter .converting)) 128));
-      sts = sts-shown (on (v .converter .converting)) (v .converter .selected % 32) 96 (omega arith) (omega arith);
+      sts = shows (adByte v) 0 7 (v .converter .selected % 32 + 96) (on (v .converter .converting)) (omega arith) (omega arith);
     }
+
+flags-shown : (ef ff : Bool) → (wide (flagByte ef ff) ≡ false) × (EF (flagByte ef ff) ≡ ef) × (FF (flagByte ef ff) ≡ ff)
+flags-shown true true = (refl, refl, refl)
+flags-shown true false = (refl, refl, refl)
+flags-shown false true = (refl, refl, refl)
+flags-shown false false = (refl, refl, refl)
 
 looks : (v : View) → Looks small v
 looks v =
-    let n = weightOf (on (v .converter .scanen)) 4 in
-    let r : n + 0 ≤ 15 = omega (arith, weight-le (on (v .converter .scanen)) 4) in
-    record {
-      byte = fifoByte v;
-      serves = record { answers = refl; leaves = refl; begins-none = refl };
-      narrow = le-ltb 255 (fifoByte v) (status-narrow (flagsOf v) n 0 r);
-      ef = ef-shown (flagsOf v) n 0 r;
-      hf = hf-shown (flagsOf v) n 0 r;
-      ff = ff-shown (flagsOf v) n 0 r;
-      ovf = ovf-shown (flagsOf v) n 0 r;
-    }
+    let f = flags-shown (leb (length (v .held)) 0) (leb 512 (length (v .held))) in
+    record { byte = fifoByte v; serves = record { answers = refl; leaves = refl; begins-none = refl }; narrow = f .0; ef = f .1; ff = f .2 }
 
 words : (v : View) → Fetches small v
 words v =
@@ -137,7 +131,6 @@ small-laws =
     record {
       works = small-works;
       room = λ v k. k .room;
-      over = λ v k. k .over;
       happens = λ v w k. small-happens v w;
       stops = λ v k. record { answers = refl; leaves = refl; begins-none = refl };
       polls = λ v k. polls v;

@@ -13,11 +13,10 @@ use Rattle.collector_phases.specs.declared.Collector.{Collector}
 use Rattle.collector_steps.specs.declared.Taken.{Taken}
 
 -- what conversions and samples depend on: low, high and selected channel, the conversion in progress (STS) and its channel, SCANEN and CLKEN;
--- the samples held, oldest first; OVF
+-- the samples held, oldest first
 pub record View : Type 0 where
   pub converter : Converter
   pub held : List ℕ
-  pub ovf : Bool
 
 pub record Machine : Type 1 where
   -- the record with both memories

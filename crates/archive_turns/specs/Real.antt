@@ -5,7 +5,6 @@ use mathlib.Core.Bool.{Bool, _&&_}
 use mathlib.Core.List.{List}
 use mathlib.Core.Option.{none}
 use lib.Dec.{eqb}
-use Rattle.base.specs.Flags.{on}
 use Rattle.base.specs.Choice.{if_then_else_}
 use Rattle.fifo.specs.Queue.{queue}
 use Rattle.machine_record.specs.declared.Board.{Board}
@@ -34,8 +33,7 @@ real =
       Board = State;
       stepped = afterEvent;
       answered = answerAt;
-      view = λ l.
-          record { converter = l .board .converter; held = queue (l .board .fifo) (l .memory); ovf = on (l .board .fifo .ovf) };
+      view = λ l. record { converter = l .board .converter; held = queue (l .board .fifo) (l .memory) };
       begins = λ l ev. takes l ev && conversions.begins (l .board) ev;
       ends = λ l ev. if takes l ev then conversions.codeIn ev else none;
     }

@@ -3,6 +3,7 @@ pub mod Fields
 pub mod Tests
 pub mod Laws
 pub mod Weights
+pub mod Shown
 pub mod Checks
 pub mod Unrefused
 pub mod Flags

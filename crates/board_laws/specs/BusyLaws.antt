@@ -1,14 +1,15 @@
 -- DACBUSY's count over a row of events: laws for the theorem about it.
-use Prim.Native.Nat.{ℕ, _+_, _-_, _<_, _/_, _%_}
+use Prim.Native.Nat.{ℕ, _+_, _-_, _<_, _%_}
 use mathlib.Core.Path.{_≡_, refl, ap, _∙_}
 use mathlib.Core.Bool.{Bool, true, false, _&&_}
 use mathlib.Core.List.{List, [], _∷_}
 use native.Mathlib.Omega.{arith}
-use borrow.Author.Tests.{eqb-true, eq-eqb, ne-eqb, lt-ltb, le-ltb, ltb-true, ltb-false}
+use borrow.Author.Tests.{eqb-true, eq-eqb, lt-ltb, le-ltb, ltb-true, ltb-false}
 use lib.Dec.{eqb, ltb}
 use Rattle.base.specs.Choice.{if_then_else_}
 use Rattle.base.specs.Fields.{bit}
 use Rattle.base.specs.Weights.{weightOf, weight-le}
+use Rattle.base.specs.Shown.{shows}
 use Rattle.fifo.specs.Queue.{queue}
 use Rattle.outputs.specs.Outputs.{dacbusy}
 use Rattle.calibration_registers.specs.Registers.{calbusy}
@@ -84,8 +85,7 @@ left-of-100 n k h = by (ltb k 100) refl
 
 -- ---- DACBUSY is bit 7 of what 4 reads
 bit-7 : (t u : Bool) (n : ℕ) → bit (weightOf t 128 + weightOf u 64 + n % 16) 7 ≡ t
-bit-7 true u n = let k = weight-le u 64 in eq-eqb ((128 + weightOf u 64 + n % 16) / 128 % 2) 1 (omega arith)
-bit-7 false u n = let k = weight-le u 64 in ne-eqb ((0 + weightOf u 64 + n % 16) / 128 % 2) 1 (λ e. omega arith)
+bit-7 t u n = shows (weightOf t 128 + weightOf u 64 + n % 16) 0 7 (weightOf u 64 + n % 16) t (omega arith) (omega (arith, weight-le u 64))
 
 pub shown-at-4 : (s : State) → Works s → bit (valueRead (answerAt s (ReadByte 4))) 7 ≡ dacbusy (s .board .outputs)
 unfolding eventChecks placeOf readChecks valueBrought byteAt

@@ -21,3 +21,5 @@ pub mod AfterReset
 pub mod Edges
 pub mod EdgeLaws
 pub mod NoEdge
+pub mod StatusLaws
+pub mod Status

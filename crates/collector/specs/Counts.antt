@@ -19,7 +19,7 @@ use Rattle.collector_phases.specs.Fit.{FitIn}
 use Rattle.collector_records.specs.Records.{firstRecord}
 use Rattle.collector.specs.Steps.{Step}
 use Rattle.collector.specs.Steps.{stopped, poll-wide, poll-free, poll-again, poll-last, ranged, cleared, lowered, raised, went}
-use Rattle.collector.specs.Steps.{look-wide, look-contradicts, look-empty, look-full, look-few, taken, drained, closed, stands}
+use Rattle.collector.specs.Steps.{look-wide, look-empty, look-full, look-few, taken, drained, closed, stands}
 
 -- ---- the reads of offset 8 in a history
 -- 9←0, with which a start begins
@@ -79,10 +79,9 @@ step-counts c a Low r n f h lowered = h refl
 step-counts c a High r n f h raised = h refl
 step-counts c a Go r n f h went = rw (go-begins-none (eqb (c .settings .clock) 0)) (h refl)
 step-counts c a Look r n f h (look-wide e) = h refl
-step-counts c a Look r n f h (look-contradicts e d) = h refl
-step-counts c a Look r n f h (look-empty e d t) = h refl
-step-counts c a Look r n f h (look-full e d t l) = h refl
-step-counts c a Look r n f h (look-few e d t l) = h refl
+step-counts c a Look r n f h (look-empty e t) = h refl
+step-counts c a Look r n f h (look-full e t l) = h refl
+step-counts c a Look r n f h (look-few e t l) = h refl
 step-counts c a Take r n f h taken = h refl
 step-counts c a Drain r n f h (drained e) = h refl
 step-counts c a Drain r n f h (closed e) = h refl
@@ -103,10 +102,9 @@ step-holds c a Low r lowered = (refl, λ u. refl)
 step-holds c a High r raised = (refl, λ u. refl)
 step-holds c a Go r went = (refl, λ u. refl)
 step-holds c a Look r (look-wide e) = (refl, λ u. refl)
-step-holds c a Look r (look-contradicts e d) = (refl, λ u. refl)
-step-holds c a Look r (look-empty e d t) = (refl, λ u. refl)
-step-holds c a Look r (look-full e d t l) = (refl, λ u. refl)
-step-holds c a Look r (look-few e d t l) = (refl, λ u. refl)
+step-holds c a Look r (look-empty e t) = (refl, λ u. refl)
+step-holds c a Look r (look-full e t l) = (refl, λ u. refl)
+step-holds c a Look r (look-few e t l) = (refl, λ u. refl)
 step-holds c a Take r taken = (refl, λ u. refl)
 step-holds c a Drain r (drained e) = (refl, λ u. refl)
 step-holds c a Drain r (closed e) = (refl, λ u. absurd (let z : _≡_ {A = ℕ} 0 1 = cc in omega arith))
@@ -126,10 +124,9 @@ gap-begins c a Low r y lowered g = absurd (let z : _≡_ {A = ℕ} 0 1 = cc in o
 gap-begins c a High r y raised g = absurd (let z : _≡_ {A = ℕ} 0 1 = cc in omega arith)
 gap-begins c a Go r y went g = absurd (let z : _≡_ {A = ℕ} 0 1 = cc in omega arith)
 gap-begins c a Look r y (look-wide e) g = absurd (let z : _≡_ {A = ℕ} 0 1 = cc in omega arith)
-gap-begins c a Look r y (look-contradicts e d) g = absurd (let z : _≡_ {A = ℕ} 0 1 = cc in omega arith)
-gap-begins c a Look r y (look-empty e d t) g = absurd (let z : _≡_ {A = ℕ} 0 1 = cc in omega arith)
-gap-begins c a Look r y (look-full e d t l) g = absurd (let z : _≡_ {A = ℕ} 0 1 = cc in omega arith)
-gap-begins c a Look r y (look-few e d t l) g = absurd (let z : _≡_ {A = ℕ} 0 1 = cc in omega arith)
+gap-begins c a Look r y (look-empty e t) g = absurd (let z : _≡_ {A = ℕ} 0 1 = cc in omega arith)
+gap-begins c a Look r y (look-full e t l) g = absurd (let z : _≡_ {A = ℕ} 0 1 = cc in omega arith)
+gap-begins c a Look r y (look-few e t l) g = absurd (let z : _≡_ {A = ℕ} 0 1 = cc in omega arith)
 gap-begins c a Take r y taken g = absurd (let z : _≡_ {A = ℕ} 0 1 = cc in omega arith)
 gap-begins c a Drain r y (drained e) g = absurd (let z : _≡_ {A = ℕ} 0 1 = cc in omega arith)
 gap-begins c a Drain r y (closed e) g = refl
@@ -149,10 +146,9 @@ step-within c a Low r f w lowered = w
 step-within c a High r f w raised = w
 step-within c a Go r f w went = w
 step-within c a Look r f w (look-wide e) = w
-step-within c a Look r f w (look-contradicts e d) = w
-step-within c a Look r f w (look-empty e d t) = w
-step-within c a Look r f w (look-full e d t l) = w
-step-within c a Look r f w (look-few e d t l) = w
+step-within c a Look r f w (look-empty e t) = w
+step-within c a Look r f w (look-full e t l) = w
+step-within c a Look r f w (look-few e t l) = w
 step-within c a Take r f w taken = w
 step-within c a Drain r f w (drained e) = w
 step-within c a Drain r f w (closed e) = w

@@ -1,4 +1,4 @@
--- A drain as a whole (the specification, "The collector": "FF or OVF: 512 word reads handed over, a gap marked with the last, start again").
+-- A drain as a whole (the specification, "The collector": "512 word reads handed over, a gap marked with the last, start again").
 use Prim.Native.Nat.{ℕ, suc, _+_, _-_, _≤_, _<_}
 use mathlib.Core.Path.{_≡_, refl, ap, subst, _∙_}
 use mathlib.Core.Bool.{Bool, true, false}

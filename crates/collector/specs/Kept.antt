@@ -21,7 +21,7 @@ use Rattle.collector_records.specs.Records.{firstRecord, startOf, entered, poll
 use Rattle.collector_replies.specs.Reply.{replied}
 use Rattle.collector.specs.Steps.{Step, step}
 use Rattle.collector.specs.Steps.{stopped, poll-wide, poll-free, poll-again, poll-last, ranged, cleared, lowered, raised, went}
-use Rattle.collector.specs.Steps.{look-wide, look-contradicts, look-empty, look-full, look-few, taken, drained, closed, stands}
+use Rattle.collector.specs.Steps.{look-wide, look-empty, look-full, look-few, taken, drained, closed, stands}
 
 -- ---- a start
 pub begun-fit : (s : Settings) → FitSettings s → FitCollector (firstRecord s)
@@ -96,10 +96,9 @@ module _ (c : Collector) (w : FitCollector c) where
   kept a High r f raised = entered-fit (phaseNumber Go) tt
   kept a Go r f went = entered-fit (phaseNumber Look) tt
   kept a Look r f (look-wide e) = w
-  kept a Look r f (look-contradicts e d) = w
-  kept a Look r f (look-empty e d t) = w
-  kept a Look r f (look-full e d t l) = draining-fit
-  kept a Look r f (look-few e d t l) = entered-fit (phaseNumber Take) tt
+  kept a Look r f (look-empty e t) = w
+  kept a Look r f (look-full e t l) = draining-fit
+  kept a Look r f (look-few e t l) = entered-fit (phaseNumber Take) tt
   kept a Take r f taken = passed-fit (phaseNumber Look) (c .left) tt
   kept a Drain r f (drained e) =
       passed-fit (phaseNumber Drain) (c .left - 1)

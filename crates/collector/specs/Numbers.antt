@@ -27,7 +27,7 @@ use Rattle.collector_replies.specs.Reply.{answered, decided, replied}
 use Rattle.collector.specs.Handed.{startNumber, accessNumber, handedRefusal, startEnds, isGo, is-go}
 use Rattle.collector.specs.Steps.{Step, step, access-fit, reply-unfit, access-unfit}
 use Rattle.collector.specs.Steps.{stopped, poll-wide, poll-free, poll-again, poll-last, ranged, cleared, lowered, raised, went}
-use Rattle.collector.specs.Steps.{look-wide, look-contradicts, look-empty, look-full, look-few, taken, drained, closed, stands}
+use Rattle.collector.specs.Steps.{look-wide, look-empty, look-full, look-few, taken, drained, closed, stands}
 
 -- ---- a start: 14, 11, 12, 13
 pub start-number : (s : Settings) → startNumber (startOf s) ≡ startRefusal s
@@ -67,7 +67,7 @@ access-number c = by (fit c) refl
     by true h = in-phase (phaseOf (c .phase)) (fit-of c h .phase)
     by false h = refl
 
--- ---- an answer: 1, 15 once stuck, 17, 15 at the last poll, 16
+-- ---- an answer: 1, 15 once stuck, 17, 15 at the last poll
 pub reply-number : (c : Collector) (a : ℕ)
     → handedRefusal (replied c a .handed) ≡ refusal (answerChecks (accessIn (phaseOf (c .phase)) (c .settings)) c a)
 unfolding replied
@@ -107,10 +107,9 @@ step-ends c a Low r lowered = refl
 step-ends c a High r raised = refl
 step-ends c a Go r went = sym (is-go (eqb (c .settings .clock) 0))
 step-ends c a Look r (look-wide e) = refl
-step-ends c a Look r (look-contradicts e d) = refl
-step-ends c a Look r (look-empty e d t) = refl
-step-ends c a Look r (look-full e d t l) = refl
-step-ends c a Look r (look-few e d t l) = refl
+step-ends c a Look r (look-empty e t) = refl
+step-ends c a Look r (look-full e t l) = refl
+step-ends c a Look r (look-few e t l) = refl
 step-ends c a Take r taken = refl
 step-ends c a Drain r (drained e) = refl
 step-ends c a Drain r (closed e) = refl

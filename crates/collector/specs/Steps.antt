@@ -13,7 +13,7 @@ use Rattle.collector_phases.specs.declared.Access.the-variants.{NoAccess}
 use Rattle.collector_steps.specs.declared.Handed.the-variants.{Nothing, StartEnd, OneSample, Refused}
 use Rattle.collector_steps.specs.declared.Taken.{Taken}
 use Rattle.collector_phases.specs.Phases.{phaseNumber, phaseOf, accessIn, isNone}
-use Rattle.collector_answers.specs.Answers.{wide, STS, EF, contradicts, isFull, sampleAt}
+use Rattle.collector_answers.specs.Answers.{wide, STS, EF, FF, sampleAt}
 use Rattle.collector_phases.specs.Fit.{FitIn, FitCollector, fit}
 use Rattle.collector_replies.specs.Joined.{fit-to}
 use Rattle.collector_records.specs.Records.{entered, pollCounted, draining, passed}
@@ -34,11 +34,9 @@ pub data Step (c : Collector) (a : ℕ) : Phase → Taken → Type 0 where
   raised : Step c a High (reports (entered c (phaseNumber Go)) Nothing)
   went : Step c a Go (reports (entered c (phaseNumber Look)) StartEnd)
   look-wide : wide a ≡ true → Step c a Look (reports c (Refused 17))
-  look-contradicts : wide a ≡ false → contradicts a ≡ true → Step c a Look (reports c (Refused 16))
-  look-empty : wide a ≡ false → contradicts a ≡ false → EF a ≡ true → Step c a Look (reports c Nothing)
-  look-full : wide a ≡ false → contradicts a ≡ false → EF a ≡ false → isFull a ≡ true → Step c a Look (reports (draining c) Nothing)
-  look-few : wide a ≡ false → contradicts a ≡ false → EF a ≡ false → isFull a ≡ false
-      → Step c a Look (reports (entered c (phaseNumber Take)) Nothing)
+  look-empty : wide a ≡ false → EF a ≡ true → Step c a Look (reports c Nothing)
+  look-full : wide a ≡ false → EF a ≡ false → FF a ≡ true → Step c a Look (reports (draining c) Nothing)
+  look-few : wide a ≡ false → EF a ≡ false → FF a ≡ false → Step c a Look (reports (entered c (phaseNumber Take)) Nothing)
   taken : Step c a Take (reports (passed c (phaseNumber Look) (c .left)) (OneSample (sampleAt (c .next) a)))
   drained : leb (c .left) 1 ≡ false → Step c a Drain (reports (passed c (phaseNumber Drain) (c .left - 1)) (OneSample (sampleAt (c .next) a)))
   closed : leb (c .left) 1 ≡ true → Step c a Drain (closes c a)
@@ -55,12 +53,11 @@ module _ (c : Collector) (a : ℕ) where
   poll-step false true false e f g = rw (e, f, g) (poll-again e f g)
   poll-step false false l e f g = rw (e, f) (poll-free e f)
 
-  look-step : (w k t l : Bool) → wide a ≡ w → contradicts a ≡ k → EF a ≡ t → isFull a ≡ l → Step c a Look (fitReply Look c a)
-  look-step true k t l e d f g = rw e (look-wide e)
-  look-step false true t l e d f g = rw (e, d) (look-contradicts e d)
-  look-step false false true l e d f g = rw (e, d, f) (look-empty e d f)
-  look-step false false false true e d f g = rw (e, d, f, g) (look-full e d f g)
-  look-step false false false false e d f g = rw (e, d, f, g) (look-few e d f g)
+  look-step : (w t l : Bool) → wide a ≡ w → EF a ≡ t → FF a ≡ l → Step c a Look (fitReply Look c a)
+  look-step true t l e f g = rw e (look-wide e)
+  look-step false true l e f g = rw (e, f) (look-empty e f)
+  look-step false false true e f g = rw (e, f, g) (look-full e f g)
+  look-step false false false e f g = rw (e, f, g) (look-few e f g)
 
   drain-step : (l : Bool) → leb (c .left) 1 ≡ l → Step c a Drain (fitReply Drain c a)
   drain-step true e = rw e (closed e)
@@ -74,7 +71,7 @@ module _ (c : Collector) (a : ℕ) where
   step-in Low w = lowered
   step-in High w = raised
   step-in Go w = went
-  step-in Look w = look-step (wide a) (contradicts a) (EF a) (isFull a) refl refl refl refl
+  step-in Look w = look-step (wide a) (EF a) (FF a) refl refl refl
   step-in Take w = taken
   step-in Drain w = drain-step (leb (c .left) 1) refl
   step-in Stuck w = stands

@@ -1,10 +1,11 @@
 -- The next access, as a table (the specification, "The collector": "Start: 9←0; read 8 until STS=0, each poll counted; 11←range code; 7←02;
 -- 2←low; 3←high; 9←02, or 03 for the internal clock. .. Then look: read 7. EF: look again. Not full: one word read .. FF or OVF: 512 word
--- reads handed over, a gap marked with the last, start again"). It covers every phase and every answer of a fit collector; so none
--- handles its first look and idles afterwards.
+-- reads handed over, a gap marked with the last, start again"; of a look, request M-108: "goes by EF first, FF next, and reads nothing else").
+-- It covers every phase and every answer of a fit collector, so of a look each of the 256 bytes; and none handles its first look and idles
+-- afterwards.
 use Prim.Native.Nat.{ℕ}
 use mathlib.Core.Path.{_≡_, refl, _∙_}
-use mathlib.Core.Bool.{Bool, _&&_}
+use mathlib.Core.Bool.{Bool, false, _&&_}
 use mathlib.Core.List.{List, [], _∷_}
 use lib.Dec.{eqb, leb}
 use Rattle.base.specs.Choice.{if_then_else_}
@@ -17,14 +18,14 @@ use Rattle.collector_phases.specs.declared.Access.the-variants.{WriteByte, Read
 use Rattle.collector_steps.specs.declared.Taken.{Taken}
 use Rattle.collector_settings.specs.Settings.{clockByte}
 use Rattle.collector_phases.specs.Phases.{phaseNumber, phaseOf, accessIn}
-use Rattle.collector_answers.specs.Answers.{wide, STS, EF, contradicts, isFull}
+use Rattle.collector_answers.specs.Answers.{wide, STS, EF, FF}
 use Rattle.collector_phases.specs.Fit.{FitCollector}
 use Rattle.collector_refusals.specs.Refusals.{lastPoll}
 use Rattle.collector_phases.specs.Accesses.{accessOf}
 use Rattle.collector_replies.specs.Reply.{replied}
 use Rattle.collector.specs.Steps.{Step, step, access-fit}
 use Rattle.collector.specs.Steps.{stopped, poll-wide, poll-free, poll-again, poll-last, ranged, cleared, lowered, raised, went}
-use Rattle.collector.specs.Steps.{look-wide, look-contradicts, look-empty, look-full, look-few, taken, drained, closed, stands}
+use Rattle.collector.specs.Steps.{look-wide, look-empty, look-full, look-few, taken, drained, closed, stands}
 use Rattle.collector.specs.Kept.{replied-fit}
 
 -- the kinds of answer
@@ -36,8 +37,7 @@ pub data Kind : Type 0 where
   STS=0 : Kind
   STS=1 : Kind
   STS=1-last : Kind
-  -- of a look: EF with HF or FF or OVF without FF; EF; FF or OVF; none of these
-  contradicting : Kind
+  -- of a look: EF; FF without EF; neither
   empty : Kind
   full : Kind
   not-full : Kind
@@ -56,9 +56,8 @@ kindIn High c a = any
 kindIn Go c a = any
 kindIn Look c a =
     if wide a then above-255
-    else if contradicts a then contradicting
     else if EF a then empty
-    else if isFull a then full
+    else if FF a then full
     else not-full
 kindIn Take c a = any
 kindIn Drain c a = if leb (c .left) 1 then last else more
@@ -87,7 +86,6 @@ table s =
     ∷ row High any (WriteByte 9 (clockByte s))
     ∷ row Go any (ReadByte 7)
     ∷ row Look above-255 (ReadByte 7)
-    ∷ row Look contradicting (ReadByte 7)
     ∷ row Look empty (ReadByte 7)
     ∷ row Look not-full (ReadWord 0)
     ∷ row Look full (ReadWord 0)
@@ -104,12 +102,11 @@ kindNumber above-255 = 1
 kindNumber STS=0 = 2
 kindNumber STS=1 = 3
 kindNumber STS=1-last = 4
-kindNumber contradicting = 5
-kindNumber empty = 6
-kindNumber full = 7
-kindNumber not-full = 8
-kindNumber more = 9
-kindNumber last = 10
+kindNumber empty = 5
+kindNumber full = 6
+kindNumber not-full = 7
+kindNumber more = 8
+kindNumber last = 9
 
 abbrev is : Row → Phase → Kind → Bool
 is r p k = eqb (phaseNumber (r .phase)) (phaseNumber p) && eqb (kindNumber (r .answer)) (kindNumber k)
@@ -133,10 +130,9 @@ in-table c a Low r q lowered = refl
 in-table c a High r q raised = refl
 in-table c a Go r q went = refl
 in-table c a Look r q (look-wide e) = rw (e, q)
-in-table c a Look r q (look-contradicts e d) = rw (e, d, q)
-in-table c a Look r q (look-empty e d t) = rw (e, d, t, q)
-in-table c a Look r q (look-full e d t l) = rw (e, d, t, l)
-in-table c a Look r q (look-few e d t l) = rw (e, d, t, l)
+in-table c a Look r q (look-empty e t) = rw (e, t, q)
+in-table c a Look r q (look-full e t l) = rw (e, t, l)
+in-table c a Look r q (look-few e t l) = rw (e, t, l)
 in-table c a Take r q taken = refl
 in-table c a Drain r q (drained e) = rw e
 in-table c a Drain r q (closed e) = rw e
@@ -147,3 +143,9 @@ pub next-access : (c : Collector) (a : ℕ) → FitCollector c
     → accessOf (replied c a .collector) ≡ given (table (c .settings)) (phaseOf (c .phase)) (kindIn (phaseOf (c .phase)) c a)
 next-access c a w =
     access-fit (replied c a .collector) (replied-fit c w a) ∙ in-table c a (phaseOf (c .phase)) (replied c a) refl (step c a w)
+
+-- "reads nothing else": two bytes of a look that agree in EF and in FF are answered alike, whatever the record.
+pub reads-nothing-else : (c : Collector) (a b : ℕ) → phaseOf (c .phase) ≡ Look → wide a ≡ false → wide b ≡ false → EF a ≡ EF b → FF a ≡ FF b
+    → replied c a ≡ replied c b
+unfolding replied
+reads-nothing-else c a b p w v e f = rw (p, w, v, e, f)

@@ -1,6 +1,6 @@
 // How an answer of the bus is read: specs/Answers.antt.
 ghost use mathlib.Core.Path.{_≡_};
-ghost use Rattle.collector_answers.specs.Answers.{wide, STS, EF, contradicts, isFull, sampleAt};
+ghost use Rattle.collector_answers.specs.Answers.{wide, STS, EF, FF, sampleAt};
 use samples::Sample;
 
 // What came of an access: the number that the bus brought (a byte, a word, or for a write anything), or the number by which the board refused it.
@@ -30,22 +30,11 @@ pub fn is_empty(a: u16) -> bool
     a / 128 % 2 == 1
 }
 
-// FF or OVF of Base + 7.
+// FF of Base + 7: the memory is full.
 pub fn is_full(a: u16) -> bool
-    ensures { λ r. ⌜ r ≡ isFull a ⌝ }
+    ensures { λ r. ⌜ r ≡ FF a ⌝ }
 {
-    (a / 32 % 2 == 1) | (a / 16 % 2 == 1)
-}
-
-// EF with HF or FF, or OVF without FF.
-pub fn is_contradictory(a: u16) -> bool
-    ensures { λ r. ⌜ r ≡ contradicts a ⌝ }
-{
-    let ef = a / 128 % 2 == 1;
-    let hf = a / 64 % 2 == 1;
-    let ff = a / 32 % 2 == 1;
-    let ovf = a / 16 % 2 == 1;
-    (ef & (hf | ff)) | (ovf & !ff)
+    a / 32 % 2 == 1
 }
 
 // The sample of a word.

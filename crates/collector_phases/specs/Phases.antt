@@ -43,7 +43,7 @@ phaseOf n =
     else Unknown
 
 -- "Start: 9←0; read 8 until STS=0 ..; 11←range code; 7←02; 2←low; 3←high; 9←02, or 03 for the internal clock. .. Then look: read 7. ..
--- Not full: one word read .. FF or OVF: 512 word reads". A stuck collector names none (15), nor does an unknown phase (1).
+-- Not full: one word read .. 512 word reads". A stuck collector names none (15), nor does an unknown phase (1).
 abbrev pub accessIn : Phase → Settings → Access
 accessIn Stop s = WriteByte 9 0
 accessIn Poll s = ReadByte 8

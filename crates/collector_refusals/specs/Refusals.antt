@@ -1,4 +1,5 @@
--- Which answers are refused (the specification, "Collector answers: 1, 15 once stuck, 17, 15 at the last poll, 16").
+-- Which answers are refused (the specification, "Collector answers: 1, 15 once stuck, 17, 15 at the last poll"; request M-108: "16 goes;
+-- the rest keep their order").
 use Prim.Native.Nat.{ℕ, _+_}
 use mathlib.Core.Bool.{Bool, not, _&&_}
 use mathlib.Core.List.{List, [], _∷_}
@@ -8,7 +9,7 @@ use Rattle.collector_phases.specs.declared.Collector.{Collector}
 use Rattle.collector_phases.specs.declared.Access.{Access}
 use Rattle.collector_phases.specs.Phases.{isByteRead, reads, isNone}
 use Rattle.collector_phases.specs.Fit.{fit}
-use Rattle.collector_answers.specs.Answers.{wide, STS, contradicts}
+use Rattle.collector_answers.specs.Answers.{wide, STS}
 
 -- this poll is the last that the limit allows
 abbrev pub lastPoll : Collector → Bool
@@ -18,7 +19,6 @@ abbrev pub readAnswerChecks : Access → Collector → ℕ → List Check
 readAnswerChecks x c a =
     (isByteRead x && wide a) refuses 17
     ∷ (reads 8 x && STS a && lastPoll c) refuses 15
-    ∷ (reads 7 x && contradicts a) refuses 16
     ∷ []
 
 abbrev pub answerChecks : Access → Collector → ℕ → List Check

@@ -23,8 +23,6 @@ fn byte_refusal(offset: u8, c: Collector, a: u16) -> u8
         17
     } else if (offset == 8) & collector_answers::is_converting(a) & is_last_poll(c) {
         15
-    } else if (offset == 7) & collector_answers::is_contradictory(a) {
-        16
     } else {
         0
     }

@@ -1,4 +1,4 @@
--- What the collector does with an answer (the specification, "The collector", and refusals 1 and 15 to 17).
+-- What the collector does with an answer (the specification, "The collector", and refusals 1, 15 and 17).
 use Prim.Native.Nat.{ℕ}
 use mathlib.Core.Bool.{_&&_}
 use lib.Dec.{eqb}

@@ -1,4 +1,5 @@
--- What the answer to a read leads to: of a poll, of a look, of a word read (the specification, "The collector").
+-- What the answer to a read leads to: of a poll, of a look, of a word read (the specification, "The collector"; request M-108: "goes by EF
+-- first, FF next, and reads nothing else").
 use Prim.Native.Nat.{ℕ, _-_}
 use lib.Dec.{leb}
 use Rattle.base.specs.Choice.{if_then_else_}
@@ -6,7 +7,7 @@ use Rattle.collector_phases.specs.declared.Collector.{Collector}
 use Rattle.collector_phases.specs.declared.Phase.the-variants.{Poll, Range, Look, Take, Drain}
 use Rattle.collector_phases.specs.Phases.{phaseNumber}
 use Rattle.collector_records.specs.Records.{firstRecord, entered, pollCounted, draining, passed}
-use Rattle.collector_answers.specs.Answers.{STS, EF, isFull, sampleAt}
+use Rattle.collector_answers.specs.Answers.{STS, EF, FF, sampleAt}
 use Rattle.collector_steps.specs.declared.Handed.{Handed}
 use Rattle.collector_steps.specs.declared.Handed.the-variants.{OneSample, LastSample}
 use Rattle.collector_steps.specs.declared.Taken.{Taken}
@@ -25,7 +26,7 @@ polled c a = if STS a then pollCounted c (phaseNumber Poll) else pollCounted c (
 
 -- of a look
 abbrev pub looked : Collector → ℕ → Collector
-looked c a = if EF a then c else if isFull a then draining c else entered c (phaseNumber Take)
+looked c a = if EF a then c else if FF a then draining c else entered c (phaseNumber Take)
 
 -- of a word read after a look
 abbrev pub took : Collector → ℕ → Taken

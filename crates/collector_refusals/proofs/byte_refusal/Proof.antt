@@ -10,20 +10,13 @@ byte-refusal-spec =
     (λ c κs. search needs)
     (λ c κs. search needs)
     (λ c κs. search needs)
-    (λ c κs. search needs)
     (λ c. simp (rw (c .before .is-wide .ensures) at (c .if1 .taken)))
     (λ c. simp (
       rw (c .before .is-last-poll .ensures, c .before .before .is-converting .ensures) at (c .if2 .taken),
       rw (c .before .before .before .before .is-wide .ensures) at (c .before .before .before .if1 .left),
     ))
     (λ c. simp (
-      rw (c .before .is-contradictory .ensures) at (c .if3 .taken),
-      rw (c .before .before .before .is-last-poll .ensures, c .before .before .before .before .is-converting .ensures) at (c .before .before .if2 .left),
-      rw (c .before .before .before .before .before .before .is-wide .ensures) at (c .before .before .before .before .before .if1 .left),
-    ))
-    (λ c. simp (
-      rw (c .before .is-contradictory .ensures) at (c .if3 .left),
-      rw (c .before .before .before .is-last-poll .ensures, c .before .before .before .before .is-converting .ensures) at (c .before .before .if2 .left),
-      rw (c .before .before .before .before .before .before .is-wide .ensures) at (c .before .before .before .before .before .if1 .left),
+      rw (c .before .is-last-poll .ensures, c .before .before .is-converting .ensures) at (c .if2 .left),
+      rw (c .before .before .before .before .is-wide .ensures) at (c .before .before .before .if1 .left),
     ))
     in tie.close met
