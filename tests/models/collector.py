@@ -1,10 +1,11 @@
 #!/usr/bin/env python3
 """A second model of the collector and of whole scans.
 
-Made from the specification ("The collector", "Refusal numbers"), request M-108,
-the manual (chapters 5.4 and 9.2, registers 7 and 8) and the readings of
-docs/DECISIONS.md alone, without sight of the collector's code or definitions.  What the code may
-count is read off something kept here: polls are the reads of 8 in a history of
+Made from the specification ("The collector", "Refusal numbers"), the manual
+(chapters 5.4 and 9.2, registers 7 and 8) and the readings of docs/DECISIONS.md
+alone, without sight of the collector's code or definitions; what a look leads
+to was changed since to the words of request M-108, and that with the code known.
+What the code may count is read off something kept here: polls are the reads of 8 in a history of
 accesses, the next channel follows from the samples handed over, reads left are
 a queue of reads to make, and whole scans are found by trying the longest part
 first.  The papers leave three things open, which a case can show: the numbers
