@@ -19,6 +19,7 @@
 #define BYTE(value) ((uint32_t)COWRIESTEP_BYTE << 29 | (uint32_t)(value))
 #define WORD(value) ((uint32_t)COWRIESTEP_WORD << 29 | (uint32_t)(value))
 #define REFUSED(number) ((uint32_t)COWRIESTEP_REFUSED << 29 | (uint32_t)(number) << 24)
+#define NOTHING ((uint32_t)COWRIESTEP_NOTHING << 29 | UINT32_C(65535))
 
 enum { PLACES = COWRIESTEP_MEMORY_LENGTH, EEPROM_BYTES = COWRIESTEP_EEPROM_LENGTH };
 
@@ -123,6 +124,7 @@ static void empty(struct dmm32_board *b, uint16_t *memory)
     b->fifo.ovf = 0;
 }
 
+/* As the byte reads show it: all ones where there is none. */
 static uint16_t oldest(const struct dmm32_board *b, const uint16_t *memory)
 {
     return b->fifo.held ? memory[0] : 0xFFFF;
@@ -651,7 +653,9 @@ uint32_t BASELINE(read_word)(struct dmm32_board *b, uint16_t *memory, size_t mem
     REFUSE_UNFIT(b, memory, memory_length, eeprom_length);
     if (offset != 0)
         return REFUSED(COWRIESTEP_REFUSED_OFFSET);
-    uint16_t sample = oldest(b, memory);
+    if (b->fifo.held == 0)
+        return NOTHING;
+    uint16_t sample = memory[0];
     take(b, memory);
     return WORD(sample);
 }

@@ -512,6 +512,8 @@ static struct happening random_event(void)
     h.value = below(2) ? likely_byte(h.offset) : (uint8_t)below(256);
     if (h.kind > 10)
         h.ticks = below(4) ? below(300) : below(2) ? below(3) : below(5000);
+    if (h.kind == 3 && below(8) == 0)
+        h.code = -1;
     if (h.kind == 2 && below(8))
         h.offset = 0;
     else if (below(30) == 0)
@@ -586,7 +588,7 @@ static void check_working(const struct state *s)
 static void check_random(uint64_t seed, unsigned long count)
 {
     static struct state s[BOARDS];
-    unsigned long refusals[32] = {0}, kinds[8] = {0};
+    unsigned long refusals[32] = {0}, kinds[8] = {0}, all_ones = 0;
     random_state = seed * UINT64_C(0x9E3779B97F4A7C15) | 1;
     for (unsigned long n = 0; n < count; n++) {
         if (n % 64 == 0) {
@@ -609,9 +611,14 @@ static void check_random(uint64_t seed, unsigned long count)
         check_same(s, answers, what);
         kinds[COWRIESTEP_KIND(answers[0])]++;
         refusals[COWRIESTEP_REFUSAL(answers[0])]++;
+        all_ones += COWRIESTEP_KIND(answers[0]) == COWRIESTEP_WORD && COWRIESTEP_NUMBER(answers[0]) == 65535;
     }
-    printf("bench: library and baseline agree on %lu random events: %lu done, %lu bytes, %lu words; refused by", count, kinds[COWRIESTEP_DONE],
-           kinds[COWRIESTEP_BYTE], kinds[COWRIESTEP_WORD]);
+    if (kinds[COWRIESTEP_NOTHING] == 0 || all_ones == 0) {
+        fprintf(stderr, "bench: no word read of an empty memory, or none of a sample of FFFF: take more events\n");
+        exit(1);
+    }
+    printf("bench: library and baseline agree on %lu random events: %lu done, %lu bytes, %lu words (%lu of them FFFF), %lu times nothing; refused by", count,
+           kinds[COWRIESTEP_DONE], kinds[COWRIESTEP_BYTE], kinds[COWRIESTEP_WORD], all_ones, kinds[COWRIESTEP_NOTHING]);
     for (int number = 1; number <= 10; number++) {
         printf(" %d: %lu%s", number, refusals[number], number < 10 ? "," : "\n");
         if (refusals[number] == 0) {

@@ -63,28 +63,35 @@ extern "C" {
 #define COWRIESTEP_REFUSED_RANGE_CODE 13     /* an input range code 4 to 7 or above 15 */
 #define COWRIESTEP_REFUSED_POLL_LIMIT 14     /* a poll limit of 0 or above 1,000 */
 #define COWRIESTEP_REFUSED_STUCK 15          /* STS is still 1 at the last poll: the collector is stuck, and answers 15 from then on */
-#define COWRIESTEP_REFUSED_NO_BYTE 17        /* an answer above 255 to a byte read */
+#define COWRIESTEP_REFUSED_NO_BYTE 17        /* an answer above 255 to a byte read, or nothing */
 #define COWRIESTEP_REFUSED_VOLTAGE 18        /* an output voltage below its range, or one whose code is above 4095 */
 #define COWRIESTEP_REFUSED_OUTPUT 19         /* an output range or channel that is unknown */
+#define COWRIESTEP_REFUSED_NOTHING 20        /* nothing where a sample is due */
 
 /*
  * ---- the answer to an event: one number
  *
- *     bits 31-29   the kind: done, byte, word, refused
+ *     bits 31-29   the kind: done, byte, word, refused, nothing
  *     bits 28-24   the number of the refusal; 0 where nothing is refused
  *     bits 23-16   0; read answers by the macros below, since a status may come to stand here
- *     bits 15-0    the byte or the word that was read; 0 where nothing is read
+ *     bits 15-0    the byte or the word that was read; 65535 where a word was read and no sample was there; 0 where nothing is read
  *
- * so that no answer can be taken for another: done is 0, the byte 0 is 0x20000000, refusal 1 is 0x61000000.
+ * so that no answer can be taken for another: done is 0, the byte 0 is 0x20000000, refusal 1 is 0x61000000, the sample -1 is 0x4000FFFF and a word read of
+ * an empty memory 0x8000FFFF.
  */
 #define COWRIESTEP_KIND(answer) ((answer) >> 29)
 #define COWRIESTEP_REFUSAL(answer) ((answer) >> 24 & 31)
+/*
+ * Of kinds byte and word, what was read. Of kind nothing, 65535: what a guest's access to an empty memory shows, FF in each byte, as its two byte reads show;
+ * the sample -1 has the same number, and the kind alone tells them apart. Of the other kinds, 0.
+ */
 #define COWRIESTEP_NUMBER(answer) ((uint16_t)((answer) & 65535))
 
 #define COWRIESTEP_DONE 0                    /* done; nothing is read */
 #define COWRIESTEP_BYTE 1                    /* a byte was read */
 #define COWRIESTEP_WORD 2                    /* a sample was read */
 #define COWRIESTEP_REFUSED 3                 /* refused */
+#define COWRIESTEP_NOTHING 4                 /* a word was read, and no sample was there */
 
 /*
  * ---- the record of a board. In brackets: what a working board has; where there are none, any value. Otherwise every event is refused by 1.
@@ -275,7 +282,10 @@ uint32_t dmm32_write_byte(struct dmm32_board *board, uint16_t *memory, size_t me
 /* The guest reads a byte at Base + offset. The byte, or refusal 3, 7. */
 uint32_t dmm32_read_byte(struct dmm32_board *board, uint16_t *memory, size_t memory_length, uint8_t *eeprom, size_t eeprom_length, uint32_t offset);
 
-/* The guest reads a word at Base + offset: the oldest sample, which leaves, or FFFF where none is held. The word, or refusal 3 at any offset but 0. */
+/*
+ * The guest reads a word at Base + offset: the oldest sample, which leaves; where none is held, nothing, and nothing changes. The word, nothing, or refusal
+ * 3 at any offset but 0.
+ */
 uint32_t dmm32_read_word(struct dmm32_board *board, uint16_t *memory, size_t memory_length, uint8_t *eeprom, size_t eeprom_length, uint32_t offset);
 
 /*
@@ -436,18 +446,22 @@ struct dmm32_access {
 struct dmm32_access dmm32_collector_access(struct dmm32_collector collector);
 
 /*
- * What came of the access: the number that the bus brought, or a refusal of the board. After a write the number is not looked at. COWRIESTEP_BROUGHT is its
- * initialiser where `answer` is a board's: struct dmm32_bus_answer brought = COWRIESTEP_BROUGHT(answer);
+ * What came of the access: the number that the bus brought, nothing (a word read that found no sample), or a refusal of the board. After a write a number or
+ * nothing is not looked at. COWRIESTEP_BROUGHT is its initialiser where `answer` is a board's: struct dmm32_bus_answer brought = COWRIESTEP_BROUGHT(answer);
  */
 struct dmm32_bus_answer {
     uint16_t number;                         /* of kind number: the byte or the word */
-    uint8_t kind;                            /* COWRIESTEP_BROUGHT_NUMBER, _REFUSAL; another number is taken as a refusal */
+    uint8_t kind;                            /* COWRIESTEP_BROUGHT_NUMBER, _REFUSAL, _NOTHING; another number is taken as a refusal */
     uint8_t refusal;                         /* of kind refusal: its number */
 };
 
 #define COWRIESTEP_BROUGHT_NUMBER 0
 #define COWRIESTEP_BROUGHT_REFUSAL 1
-#define COWRIESTEP_BROUGHT(answer) { COWRIESTEP_NUMBER(answer), (uint8_t)(COWRIESTEP_KIND(answer) == COWRIESTEP_REFUSED), (uint8_t)COWRIESTEP_REFUSAL(answer) }
+#define COWRIESTEP_BROUGHT_NOTHING 2
+#define COWRIESTEP_BROUGHT_KIND(answer) \
+    (COWRIESTEP_KIND(answer) == COWRIESTEP_REFUSED ? COWRIESTEP_BROUGHT_REFUSAL \
+        : COWRIESTEP_KIND(answer) == COWRIESTEP_NOTHING ? COWRIESTEP_BROUGHT_NOTHING : COWRIESTEP_BROUGHT_NUMBER)
+#define COWRIESTEP_BROUGHT(answer) { COWRIESTEP_NUMBER(answer), (uint8_t)COWRIESTEP_BROUGHT_KIND(answer), (uint8_t)COWRIESTEP_REFUSAL(answer) }
 
 /* A sample that is handed over: its channel and its signed code. */
 struct dmm32_sample {
@@ -460,7 +474,7 @@ struct dmm32_taken {
     struct dmm32_collector collector;        /* the next record; a refusal leaves it, but for the poll that gets stuck */
     uint16_t polls;                          /* polls of this start; with the last sample of a drain, of the start that ends there */
     uint8_t handed;                          /* COWRIESTEP_HANDED_NOTHING, _START_END, _SAMPLE, _LAST_SAMPLE, _REFUSED */
-    uint8_t refusal;                         /* of kind refused: 1 unfit, 15 stuck, 17 no byte; or the board's own */
+    uint8_t refusal;                         /* of kind refused: 1 unfit, 15 stuck, 17 no byte, 20 nothing where a sample is due; or the board's own */
     struct dmm32_sample sample;              /* of kinds sample and last sample */
 };
 
@@ -472,15 +486,17 @@ struct dmm32_taken {
 
 /*
  * Takes what came of the access that the record names. Of the status read at 7 it goes by EF first, FF next, and reads nothing else: with EF it looks again,
- * with FF it drains the memory, and with neither it takes one sample. Told of a refusal, a fit record that is not stuck stays as it is, hands nothing over and
- * answers the refusal's number; an unfit one answers 1 and a stuck one 15, as to anything.
+ * with FF it drains the memory, and with neither it takes one sample. Told "nothing" where a sample is due, a fit record stays as it is, so that it names the
+ * same word read again and a drain's reads left do not go down, hands nothing over and answers 20; where a byte is due, 17. Told of a refusal, a fit record
+ * that is not stuck stays as it is, hands nothing over and answers the refusal's number; an unfit one answers 1 and a stuck one 15, as to anything.
  */
 struct dmm32_taken dmm32_collector_take(struct dmm32_collector collector, struct dmm32_bus_answer brought);
 
 /*
  * One turn of a collector on a board: the access that it names is made as an event of the board, and the collector takes what comes of it. It is what
- * dmm32_collector_access, the event and dmm32_collector_take do one after another. Where the collector names no access, or the board refuses it, nothing changes, and the
- * number is in `refusal`: 1 unfit or 15 stuck, or the board's own. It is in libcowriestep_turn.a.
+ * dmm32_collector_access, the event and dmm32_collector_take do one after another. Where the collector names no access, the board refuses it, or a word is
+ * read and no sample is there, nothing changes, and the number is in `refusal`: 1 unfit or 15 stuck, the board's own, or 20, which never comes of a collector
+ * that a start gave and that is alone on the bus. It is in libcowriestep_turn.a.
  */
 struct dmm32_taken dmm32_turn(struct dmm32_board *board, uint16_t *memory, size_t memory_length, uint8_t *eeprom, size_t eeprom_length, struct dmm32_collector collector);
 

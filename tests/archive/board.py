@@ -3,6 +3,7 @@ from ledger import must
 
 SINGLE_ENDED = [0x60, 0x00, 0x40, 0x20]  # S/D1 and S/D0 in a read of 8, by jumper
 MEMORY = 512
+NOTHING = None  # the answer to a word read of an empty memory (M-100)
 
 
 class Counter:
@@ -103,7 +104,7 @@ class Board:
         return 0 if ran else 10
 
     def word_read(self):
-        self.answer = -1
+        self.answer = NOTHING
         if self.memory:
             self.answer, self.overflow = self.memory.pop(0), False
         return 0

@@ -5,10 +5,11 @@ The lines have two sources. A ledger writes down every conversion begun, with th
 ended with and whether it was kept; the n-th sample after a start is the n-th conversion begun since, and that is what
 is printed. A small board and the collector's phases work out the same from a memory of bare codes and the collector's
 own count of channels. Where the two differ, or a script leaves the premises of condition 3, the run ends at that line.
+So it does where the collector is told nothing at a word read, which the board rules exclude for it alone on the bus (M-100).
 """
 import sys
 
-from board import Board, MEMORY
+from board import Board, MEMORY, NOTHING
 from ledger import Ledger, Where, must
 
 JUMPER_CHANNELS = [set(range(32)), set(range(16)), set(range(16)) | set(range(24, 32)), set(range(24))]
@@ -43,6 +44,7 @@ class Collector:
             self.phase = "look" if board.answer & 0x80 else "drain" if board.answer & 0x20 else "take"
         elif self.phase != "stuck":
             board.word_read()
+            must(board.answer is not NOTHING, "nothing where a sample is due: refusal 20")
             line = ledger.hand(self.next, board.answer)
             self.next = self.low if self.next == self.high else self.next + 1
             self.left -= 1

@@ -1,6 +1,6 @@
 /*
- * What a host acts on: the interrupt line and dmm32_due after events worked out by hand; what a collector answers where the board refuses its access; a
- * system reset.
+ * What a host acts on: the interrupt line and dmm32_due after events worked out by hand; what a collector answers where the board refuses its access or has
+ * nothing for it; a system reset.
  */
 #include "record.h"
 
@@ -118,7 +118,7 @@ static void transfers(void) {
     same("due of another", dmm32_due(board, board), COWRIESTEP_DUE_CONVERSION | UINT32_C(255) << 16);
 }
 
-/* ---- the collector told of a refusal: the record stays and the number comes back; unfit is 1, stuck 15 */
+/* ---- the collector told of a refusal, by kind 1 or any from 3 on: the record stays and the number comes back; unfit is 1, stuck 15 */
 static void told(struct dmm32_collector c, uint8_t kind, uint8_t refusal, uint8_t number) {
     struct dmm32_taken t = dmm32_collector_take(c, (struct dmm32_bus_answer){ 0x80, kind, refusal });
     struct dmm32_taken want = { c, c.polls, COWRIESTEP_HANDED_REFUSED, number, { 0, 0 } };
@@ -128,12 +128,16 @@ static void told(struct dmm32_collector c, uint8_t kind, uint8_t refusal, uint8_
 static void refusals_told(void) {
     const struct dmm32_settings s = { 8, 15, COWRIESTEP_JUMPERS_A, 0, 0, 3 };
     for (unsigned n = 0; n < 256; n++) {
+        uint8_t other = (uint8_t)(3 + n % 253);         /* each kind from 3 to 255 */
         for (uint8_t phase = 0; phase < 10; phase++) {
             told((struct dmm32_collector){ s, phase, 9, 0, 5 }, COWRIESTEP_BROUGHT_REFUSAL, (uint8_t)n, (uint8_t)n);
+            told((struct dmm32_collector){ s, phase, 9, 0, 5 }, other, (uint8_t)n, (uint8_t)n);
             told((struct dmm32_collector){ s, phase, 9, 0, 5 }, 255, (uint8_t)n, (uint8_t)n);
         }
         told((struct dmm32_collector){ s, 10, 9, 3, 5 }, COWRIESTEP_BROUGHT_REFUSAL, (uint8_t)n, COWRIESTEP_REFUSED_STUCK);
+        told((struct dmm32_collector){ s, 10, 9, 3, 5 }, other, (uint8_t)n, COWRIESTEP_REFUSED_STUCK);
         told((struct dmm32_collector){ s, 11, 9, 2, 5 }, COWRIESTEP_BROUGHT_REFUSAL, (uint8_t)n, COWRIESTEP_REFUSED_RECORD);
+        told((struct dmm32_collector){ s, 11, 9, 2, 5 }, other, (uint8_t)n, COWRIESTEP_REFUSED_RECORD);
     }
     fresh();
     uint32_t answer = dmm32_read_word(LENT, 1);
@@ -142,7 +146,7 @@ static void refusals_told(void) {
     same("its number", brought.refusal, COWRIESTEP_REFUSED_OFFSET);
 }
 
-/* ---- turns that change nothing: the board refuses, or the collector names no access */
+/* ---- turns that change nothing: the board refuses, or has nothing where a sample is due, or the collector names no access */
 static void unturned(struct dmm32_collector c, size_t memory_length, size_t eeprom_length, uint8_t number) {
     static uint16_t memory_was[COWRIESTEP_MEMORY_LENGTH];
     static uint8_t eeprom_was[COWRIESTEP_EEPROM_LENGTH];
@@ -166,6 +170,10 @@ static void turns_refused(void) {
         board.pins.din = 16;
         unturned(c, 512, 128, COWRIESTEP_REFUSED_RECORD);
         board.pins.din = 15;
+    }
+    for (uint16_t left = 1; left <= 512; left += 73) {
+        unturned((struct dmm32_collector){ s, 8, 3, 2, left }, 512, 128, COWRIESTEP_REFUSED_NOTHING);
+        unturned((struct dmm32_collector){ s, 9, 3, 2, left }, 512, 128, COWRIESTEP_REFUSED_NOTHING);
     }
     unturned((struct dmm32_collector){ s, 10, 0, 3, 0 }, 512, 128, COWRIESTEP_REFUSED_STUCK);
     unturned((struct dmm32_collector){ s, 11, 0, 0, 0 }, 512, 128, COWRIESTEP_REFUSED_RECORD);

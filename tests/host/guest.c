@@ -1,89 +1,15 @@
 /*
- * A small hypervisor: a fresh board, a guest that programs counters 1 and 2 as the clock of conversions, and the collector that empties the sample
- * memory. What is expected is worked out by hand from the specification; then every refusal is asked for once.
+ * A guest whose conversions are clocked by counters 1 and 2, and the collector that empties the sample memory over an overflow: by hand on the run before
+ * the overflow's gap, by dmm32_turn on the run after it. What is expected is worked out by hand from the specification; then every refusal is asked for once.
  */
-#include "record.h"
-
-static uint16_t memory[COWRIESTEP_MEMORY_LENGTH];
-static uint8_t eeprom[COWRIESTEP_EEPROM_LENGTH];
-static struct dmm32_board board;
-static struct dmm32_collector collector;
-
-#define LENT COWRIESTEP_LENT(&board, memory, eeprom)
-#define REFUSED(n) (UINT32_C(0x60000000) + (n) * UINT32_C(0x1000000))
-
-static void answers(const char *what, uint32_t answer, uint32_t want) { expect("guest.c", what, answer, want); }
-
-/* ---- the guest */
-
-/* Mode 2: OUT goes low on every count-th clock. Counter 1, count 3, is clocked by each tick; counter 2, count 2, by each falling OUT1. So OUT2, which
-   starts a conversion, falls on ticks 6, 12, 18, .. after these writes. */
-static void program_clock(void) {
-    static const uint8_t bytes[][2] = { { 8, 0x00 }, { 15, 0x74 }, { 13, 3 }, { 13, 0 }, { 15, 0xB4 }, { 14, 2 }, { 14, 0 } };
-    for (unsigned i = 0; i < sizeof bytes / sizeof *bytes; i++) answers("a write of the guest", dmm32_write_byte(LENT, bytes[i][0], bytes[i][1]), 0);
-}
-
-/* ---- the hypervisor: the access that the collector names, its answer, and what is handed over; by hand on the run before the overflow's gap, by
-   dmm32_turn on the run after it */
-static int turned;
-
-static struct dmm32_taken by_hand(void) {
-    struct dmm32_access x = dmm32_collector_access(collector);
-    uint32_t answer = 0;
-    if (x.kind == COWRIESTEP_ACCESS_WRITE_BYTE) answer = dmm32_write_byte(LENT, x.offset, x.value);
-    if (x.kind == COWRIESTEP_ACCESS_READ_BYTE) answer = dmm32_read_byte(LENT, x.offset);
-    if (x.kind == COWRIESTEP_ACCESS_READ_WORD) answer = dmm32_read_word(LENT, x.offset);
-    struct dmm32_bus_answer brought = COWRIESTEP_BROUGHT(answer);
-    return dmm32_collector_take(collector, brought);
-}
-
-static struct dmm32_taken turn(void) {
-    struct dmm32_taken t = turned ? dmm32_turn(LENT, collector) : by_hand();
-    expect("guest.c", "a refused access", t.refusal, 0);
-    collector = t.collector;
-    return t;
-}
-
-static void start(void) {
-    static const uint8_t wanted[7][3] = { { COWRIESTEP_ACCESS_WRITE_BYTE, 9, 0 }, { COWRIESTEP_ACCESS_READ_BYTE, 8, 0 }, { COWRIESTEP_ACCESS_WRITE_BYTE, 11, 8 },
-        { COWRIESTEP_ACCESS_WRITE_BYTE, 7, 2 }, { COWRIESTEP_ACCESS_WRITE_BYTE, 2, 3 }, { COWRIESTEP_ACCESS_WRITE_BYTE, 3, 5 }, { COWRIESTEP_ACCESS_WRITE_BYTE, 9, 3 } };
-    for (unsigned i = 0; i < 7; i++) {
-        struct dmm32_access x = dmm32_collector_access(collector);
-        expect("guest.c", "the kind of access", x.kind, wanted[i][0]);
-        expect("guest.c", "the access's offset", x.offset, wanted[i][1]);
-        expect("guest.c", "the access's value", x.value, wanted[i][2]);
-        expect("guest.c", "handed over by a start", turn().handed, i < 6 ? COWRIESTEP_HANDED_NOTHING : COWRIESTEP_HANDED_START_END);
-    }
-    expect("guest.c", "polls", collector.polls, 1);
-}
-
-/* ticks until the next conversion begins, and its end: the channel, and after how many ticks */
-static unsigned convert(int16_t code, uint8_t channel) {
-    unsigned ticks = 0;
-    while (!board.converter.converting && ticks < 100) {
-        answers("a tick", dmm32_tick(LENT), 0);
-        ticks++;
-    }
-    expect("guest.c", "the channel in conversion", board.converter.channel, channel);
-    answers("an end", dmm32_conversion_end(LENT, code), 0);
-    return ticks;
-}
-
-static void sample(uint8_t handed, uint8_t channel, int16_t code) {
-    struct dmm32_taken t = turn();
-    expect("guest.c", "what is handed over", t.handed, handed);
-    expect("guest.c", "the sample's channel", t.sample.channel, channel);
-    expect("guest.c", "the sample's code", t.sample.code, code);
-    expect("guest.c", "the polls reported", t.polls, 1);
-}
-
-static void look(void) { expect("guest.c", "handed over by a look", turn().handed, COWRIESTEP_HANDED_NOTHING); }
+#define HOST "guest.c"
+#include "guest.h"
 
 /* Channels 3 to 5, five conversions: 3, 4, 5, 3, 4, and 5 is selected. */
 static void five(void) {
     static const int16_t codes[5] = { 100, -200, 300, -400, 32767 };
     static const uint8_t channels[5] = { 3, 4, 5, 3, 4 };
-    for (unsigned i = 0; i < 5; i++) expect("guest.c", "ticks to a conversion", convert(codes[i], channels[i]), 6);
+    for (unsigned i = 0; i < 5; i++) expect(HOST, "ticks to a conversion", convert(codes[i], channels[i]), 6);
     answers("Base + 8", dmm32_read_byte(LENT, 8), 0x20000065);
     answers("Base + 7", dmm32_read_byte(LENT, 7), 0x20000000);
     for (unsigned i = 0; i < 5; i++) {
@@ -101,8 +27,8 @@ static void overflow(void) {
     look();
     for (unsigned i = 0; i < 512; i++)
         sample(i < 511 ? COWRIESTEP_HANDED_SAMPLE : COWRIESTEP_HANDED_LAST_SAMPLE, (uint8_t)(3 + (i + 2) % 3), (int16_t)(i * 127 - 32768));
-    expect("guest.c", "held after the drain", board.fifo.held, 0);
-    expect("guest.c", "polls of the next start", collector.polls, 0);
+    expect(HOST, "held after the drain", board.fifo.held, 0);
+    expect(HOST, "polls of the next start", collector.polls, 0);
     turned = 1;
     start();
     five();
@@ -116,11 +42,11 @@ static void board_refusals(void) {
     struct dmm32_board kept = board;
     board.fifo.held = 513;
     answers("1", dmm32_din(LENT, 16), REFUSED(1));
-    expect("guest.c", "working", dmm32_is_working(board, memory, 512), 0);
+    expect(HOST, "working", dmm32_is_working(board, memory, 512), 0);
     board = dmm32_fresh(4, 0);
     answers("1 with jumpers 4", dmm32_tick(LENT), REFUSED(1));
     board = kept;
-    expect("guest.c", "working", dmm32_is_working(board, memory, 512), 1);
+    expect(HOST, "working", dmm32_is_working(board, memory, 512), 1);
     answers("3", dmm32_write_byte(LENT, 16, 0), REFUSED(3));
     answers("3", dmm32_read_byte(LENT, 255), REFUSED(3));
     answers("3", dmm32_read_word(LENT, 1), REFUSED(3));
@@ -135,24 +61,24 @@ static void board_refusals(void) {
     answers("the revision", dmm32_read_byte(LENT, 15), 0x20000000 + 34);
     answers("8", dmm32_write_byte(LENT, 14, 0x80), REFUSED(8));
     answers("9", dmm32_write_byte(LENT, 14, 0xA8), REFUSED(9));
-    answers("an empty memory", dmm32_read_word(LENT, 0), 0x4000FFFF);
+    answers("an empty memory", dmm32_read_word(LENT, 0), EMPTY);
 }
 
 /* ---- the refusals 11 to 15, 17 and 1 of the collector */
 static void refused_start(struct dmm32_settings s, uint8_t number) {
     struct dmm32_start r = dmm32_collector_start(s), zeros = { .refusal = number };
-    expect("guest.c", "the refusal of a start", r.refusal, number);
-    expect("guest.c", "the bytes of a refused start", memcmp(&r, &zeros, sizeof r) != 0, 0);
-    expect("guest.c", "fit", dmm32_collector_is_fit(r.collector), 0);
-    expect("guest.c", "the access of no collector", dmm32_collector_access(r.collector).refusal, COWRIESTEP_REFUSED_RECORD);
+    expect(HOST, "the refusal of a start", r.refusal, number);
+    expect(HOST, "the bytes of a refused start", memcmp(&r, &zeros, sizeof r) != 0, 0);
+    expect(HOST, "fit", dmm32_collector_is_fit(r.collector), 0);
+    expect(HOST, "the access of no collector", dmm32_collector_access(r.collector).refusal, COWRIESTEP_REFUSED_RECORD);
 }
 
 static void refused_take(uint8_t phase, uint16_t answer, uint8_t number, uint8_t after) {
     collector.phase = phase;
     struct dmm32_taken t = dmm32_collector_take(collector, (struct dmm32_bus_answer){ answer, COWRIESTEP_BROUGHT_NUMBER, 0 });
-    expect("guest.c", "handed", t.handed, COWRIESTEP_HANDED_REFUSED);
-    expect("guest.c", "the refusal of an answer", t.refusal, number);
-    expect("guest.c", "the phase after it", t.collector.phase, after);
+    expect(HOST, "handed", t.handed, COWRIESTEP_HANDED_REFUSED);
+    expect(HOST, "the refusal of an answer", t.refusal, number);
+    expect(HOST, "the phase after it", t.collector.phase, after);
 }
 
 /* Fit: settings that would start, next from low to high, polls at most limit, below it in phase 1 and 0 in phase 0, left 1 to 512 in phase 9, a phase to 10. */
@@ -167,8 +93,8 @@ static void fit(void) {
         { { { 15, 8, 2, 0, 0, 3 }, 7, 8, 0, 0 }, 0 }, { { { 8, 16, 2, 0, 0, 3 }, 7, 8, 0, 0 }, 0 }, { { { 8, 15, 4, 0, 0, 3 }, 7, 8, 0, 0 }, 0 },
         { { { 8, 15, 2, 4, 0, 3 }, 7, 8, 0, 0 }, 0 }, { { { 8, 15, 2, 16, 0, 3 }, 7, 8, 0, 0 }, 0 } };
     for (unsigned i = 0; i < sizeof records / sizeof *records; i++) {
-        expect("guest.c", "whether a record is fit", dmm32_collector_is_fit(records[i].c), records[i].fit);
-        expect("guest.c", "the access of an unfit record", dmm32_collector_access(records[i].c).refusal == 1, !records[i].fit);
+        expect(HOST, "whether a record is fit", dmm32_collector_is_fit(records[i].c), records[i].fit);
+        expect(HOST, "the access of an unfit record", dmm32_collector_access(records[i].c).refusal == 1, !records[i].fit);
     }
 }
 
@@ -184,7 +110,7 @@ static void collector_refusals(void) {
     refused_take(7, 256, 17, 7);
     refused_take(1, 0x80, 15, 10);
     refused_take(10, 0, 15, 10);
-    expect("guest.c", "the access of a stuck collector", dmm32_collector_access(collector).refusal, 15);
+    expect(HOST, "the access of a stuck collector", dmm32_collector_access(collector).refusal, 15);
 }
 
 /* Each of the 256 bytes of a look has an outcome: EF (80) looks again, FF (20) without it drains 512, neither takes one. */
@@ -194,26 +120,25 @@ static void looks(void) {
     for (unsigned status = 0; status < 256; status++) {
         struct dmm32_taken t = dmm32_collector_take(collector, (struct dmm32_bus_answer){ (uint16_t)status, COWRIESTEP_BROUGHT_NUMBER, 0 });
         unsigned empty = status / 128, full = status / 32 % 2;
-        expect("guest.c", "handed over by a look", t.handed, COWRIESTEP_HANDED_NOTHING);
-        expect("guest.c", "the phase after a look", t.collector.phase, empty ? 7 : full ? 9 : 8);
-        expect("guest.c", "the reads left after a look", t.collector.left, !empty && full ? 512 : 0);
+        expect(HOST, "handed over by a look", t.handed, COWRIESTEP_HANDED_NOTHING);
+        expect(HOST, "the phase after a look", t.collector.phase, empty ? 7 : full ? 9 : 8);
+        expect(HOST, "the reads left after a look", t.collector.left, !empty && full ? 512 : 0);
     }
 }
 
 static void scans(void) {
     static const int16_t samples[10];
-    expect("guest.c", "whole scans of 3", (int64_t)dmm32_whole_scans(samples, 10, 3, 5), 9);
-    expect("guest.c", "whole scans of 32", (int64_t)dmm32_whole_scans(samples, 10, 0, 31), 0);
-    expect("guest.c", "whole scans of a bad range", (int64_t)dmm32_whole_scans(samples, 10, 5, 3), 0);
-    expect("guest.c", "whole scans of a bad range", (int64_t)dmm32_whole_scans(samples, 10, 0, 32), 0);
+    expect(HOST, "whole scans of 3", (int64_t)dmm32_whole_scans(samples, 10, 3, 5), 9);
+    expect(HOST, "whole scans of 32", (int64_t)dmm32_whole_scans(samples, 10, 0, 31), 0);
+    expect(HOST, "whole scans of a bad range", (int64_t)dmm32_whole_scans(samples, 10, 5, 3), 0);
+    expect(HOST, "whole scans of a bad range", (int64_t)dmm32_whole_scans(samples, 10, 0, 32), 0);
 }
 
 int main(void) {
-    board = dmm32_fresh(COWRIESTEP_JUMPERS_A, 0);
-    answers("fresh stores", dmm32_fresh_stores(memory, COWRIESTEP_MEMORY_LENGTH, eeprom, COWRIESTEP_EEPROM_LENGTH), 0);
+    fresh();
     program_clock();
     struct dmm32_start s = dmm32_collector_start((struct dmm32_settings){ .low = 3, .high = 5, .jumpers = COWRIESTEP_JUMPERS_A, .range = 8, .clock = 1, .limit = 10 });
-    expect("guest.c", "the refusal of a start", s.refusal, 0);
+    expect(HOST, "the refusal of a start", s.refusal, 0);
     collector = s.collector;
     start();
     five();
@@ -223,6 +148,6 @@ int main(void) {
     fit();
     looks();
     scans();
-    printf("guest.c: %ld answers compared, %ld differ\n", compared, differ);
+    printf(HOST ": %ld answers compared, %ld differ\n", compared, differ);
     return differ != 0;
 }

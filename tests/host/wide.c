@@ -79,6 +79,9 @@ static void pages(void) {
     refused("a write of 5 while DACBUSY", dmm32_write_byte(LENT, 5, 0), 6);
     refused("a write of 261 while DACBUSY", dmm32_write_byte(LENT, 261, 0), 3);
     expect("wide.c", "the sample", dmm32_read_word(LENT, 0), 0x40000000 + 1234);
+    /* with nothing there a word read elsewhere is 3 all the same */
+    expect("wide.c", "an empty memory", dmm32_read_word(LENT, 0), 0x8000FFFF);
+    all_refused();
 }
 
 /* 0 is low, any other number high: with DINTE a rise sets DINT, and the pin is 1 */

@@ -18,11 +18,12 @@ Operations, digits in hex; OO and O may have more digits than shown, w 8 in all:
     zNN     spoils the board: the table stands in spoils.py
     y       outputs / DOUT pins 2, 1, 0 / driven lines and levels of A, B, C / TrimDAC
     q       samples held, and the oldest and the newest
-Results: nothing for done, a byte in two and a word in four hex capitals, ! and the
-number for a refusal, each after a space.  Of t and n each event has its result.
+Results: nothing for done, a byte in two and a word in four hex capitals, empty for a
+word read that finds nothing, ! and the number for a refusal, each after a space.  Of t
+and n each event has its result.
 """
 import script
-from device import Board, Refused
+from device import NOTHING, Board, Refused
 from registers import OUT0EN, OUT2EN
 from script import ANY
 from spoils import SPOILS
@@ -46,7 +47,9 @@ class BoardScript:
             answer = self.board.event(event, *numbers)
         except Refused as refused:
             return " !%d" % refused.args
-        return shape % answer if shape else ""
+        if not shape:
+            return ""
+        return " empty" if answer is NOTHING else shape % answer
 
     # Events
 

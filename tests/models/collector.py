@@ -5,6 +5,8 @@ Made from the specification ("The collector", "Refusal numbers"), the manual
 (chapters 5.4 and 9.2, registers 7 and 8) and the readings of docs/DECISIONS.md
 alone, without sight of the collector's code or definitions; what a look leads
 to was changed since to the words of request M-108, and that with the code known.
+What the collector does when it is told nothing was added from request M-100 and
+the readings of it alone, without sight of its code or definitions.
 What the code may count is read off something kept here: polls are the reads of 8 in a history of
 accesses, the next channel follows from the samples handed over, reads left are
 a queue of reads to make, and whole scans are found by trying the longest part
@@ -16,7 +18,7 @@ after a start, otherwise as they stand).
     python3 collector.py < cases > expected
 
 The operations of a line and the shape of their results are those of the case
-program, crates/cases_collector.
+program, crates/cases_collector: a brings a number, e brings nothing.
 """
 from collections import deque, namedtuple
 from functools import lru_cache, partialmethod
@@ -24,7 +26,7 @@ from functools import lru_cache, partialmethod
 import script
 
 SHAPES = {"l": (2, 2), "j": (2,), "g": (2,), "k": (script.ANY,), "m": (4,), "s": (), "i": (), "p": (2,), "c": (2,), "o": (4,), "d": (4,),
-          "q": (), "a": (4,), "n": (4, 4), "h": (), "f": (), "z": (2, 2, 4)}
+          "q": (), "a": (4,), "e": (), "n": (4, 4), "h": (), "f": (), "z": (2, 2, 4)}
 
 # The channels of jumpers A to D (chapter 5.4); other numbers have none (D14).
 CHANNELS = ({*range(32)}, {*range(16)}, {*range(16)} | {*range(24, 32)}, {*range(24)})
@@ -35,6 +37,7 @@ RANGE_CODES = {0, 1, 2, 3, 8, 9, 10, 11, 12, 13, 14, 15}
 STS = 0x80                                  # of a read of 8
 EF, FF = 0x80, 0x20                         # of a read of 7
 MEMORY = 512
+NOTHING = None                              # brought in place of a number
 
 FIRST, POLL, LOOK, WORD, DRAIN, STUCK = 0, 1, 7, 8, 9, 10
 
@@ -127,20 +130,22 @@ class Collector:
             return "!1"
         return "!15" if self.phase == STUCK else accesses(self.given)[self.phase]
 
-    def take(self, number):
-        """An answer: what is handed over, and the polls reported with it, those of the start that a gap ends (D5)."""
+    def take(self, brought):
+        """An answer, a number or nothing: what is handed over, and the polls reported with it, those of the start that a gap ends (D5)."""
         access = self.access()
         if access[0] == "!":
             return access, self.polls()
-        if access[0] == "R" and number > 255:
+        if access[0] == "R" and (brought is NOTHING or brought > 255):
             return "!17", self.polls()
+        if access[0] == "X" and brought is NOTHING:
+            return "!20", self.polls()
         self.history += b"8" if access == "R8" else b"."
         polls = self.polls()
         if access == "R8":
-            return self.polled(number), polls
+            return self.polled(brought), polls
         if access == "R7":
-            return self.looked(number), polls
-        return (self.word_read(number) if access == "X0" else self.written()), polls
+            return self.looked(brought), polls
+        return (self.word_read(brought) if access == "X0" else self.written()), polls
 
     def written(self):
         self.phase += 1
@@ -225,6 +230,9 @@ class Bench:
 
     def do_a(self, number):
         return " %s/%d" % self.collector.take(number)
+
+    def do_e(self):
+        return " %s/%d" % self.collector.take(NOTHING)
 
     def do_n(self, count, number):
         before = [self.collector.take(number)[0] for _ in range(count - 1)]

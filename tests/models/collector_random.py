@@ -19,10 +19,13 @@ def settings(dice):
 
 
 def answer(dice):
+    """A number, or nothing."""
     kind = dice.random()
-    if kind < 0.75:
+    if kind < 0.12:
+        return "e"
+    if kind < 0.76:
         return "a%04X" % dice.choice(STATUS)
-    return "a%04X" % dice.randrange(0x10000 if kind < 0.9 else 0x100)
+    return "a%04X" % dice.choice((0xFFFF, dice.randrange(0x10000), dice.randrange(0x10000), dice.randrange(0x100)))
 
 
 def poke(dice):

@@ -1,8 +1,8 @@
 """The board: its events, requests and refusals.
 
 Made from the specification ("What is delivered", "Refusal numbers",
-"Conversions, edges and requests") and the manual.  An event is a method; its
-name and numbers are first looked at by `refusal`.
+"Conversions, edges and requests"), request M-100 and the manual.  An event is a
+method; its name and numbers are first looked at by `refusal`.
 """
 import calibration
 import registers
@@ -17,6 +17,7 @@ from samples import PLACES, SampleMemory
 from timer import Timer
 
 DIN0, DIN1, DIN2, DIN3 = 1, 2, 4, 8
+NOTHING = "empty"                       # what a word read answers where no sample is there
 
 
 class Refused(Exception):
@@ -120,8 +121,10 @@ class Board:
         registers.write(self, offset, value)
 
     def word_read(self, _offset):
-        """Base + 0 then Base + 1 as one event."""
-        return registers.read(self, 0) | registers.read(self, 1) << 8
+        """Base + 0 then Base + 1 as one event; it says whether that was a sample (M-100)."""
+        empty = self.samples.empty()
+        word = registers.read(self, 0) | registers.read(self, 1) << 8
+        return NOTHING if empty else word
 
     def not_modelled(self):
         raise Refused(NOT_MODELLED)

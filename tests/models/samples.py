@@ -34,18 +34,21 @@ class SampleMemory:
             self.places[self.held] = code
             self.held += 1
 
+    def empty(self):
+        return self.held == 0
+
     def oldest(self):
-        """The oldest sample; all ones when there is none."""
-        return self.places[0] if self.held else 0xFFFF
+        """The oldest sample as the byte reads show it; all ones when there is none."""
+        return 0xFFFF if self.empty() else self.places[0]
 
     def remove(self):
         """The oldest sample leaves and OVF clears; no change when empty."""
-        if self.held:
+        if not self.empty():
             self.places[:] = self.places[1:] + [0]
             self.held -= 1
             self.overflow = False
 
     def flags(self):
         """EF, HF, FF and OVF at bits 7 to 4, as Base + 7 shows them."""
-        return ((self.held == 0) << 7 | (self.held >= HALF) << 6
+        return (self.empty() << 7 | (self.held >= HALF) << 6
                 | (self.held == PLACES) << 5 | self.overflow << 4)

@@ -84,7 +84,7 @@ def random_line(rng):
     if kind == 5:
         return b"X"
     if kind < 9:
-        return b"C %d" % rng.choice((rng.randrange(-32770, 32770), rng.randrange(-40, 40)))
+        return b"C %d" % rng.choice((rng.randrange(-32770, 32770), rng.randrange(-40, 40), -1))
     if kind == 9:
         return b"W 0 00"
     if kind == 10:              # a command with one byte changed
@@ -133,7 +133,7 @@ run("one newline", b"\n", b"1 bad\n")
 run("NUL, CR, tab, UTF-8", b"\0\nX\r\nR\t7\n\xce\xa9\nR 7", b"1 bad\n2 bad\n3 bad\n4 bad\n5 80\n")
 run("a line of 10 MB", b"C " + b"1" * 10_000_000 + b"\nR 7\n", b"1 bad\n2 80\n")
 run("spaces of 10 MB, no newline", b" " * 10_000_000, b"1 bad\n")
-run("a million lines", b"X\n" * 1_000_000, b"".join(b"%d FFFF\n" % n for n in range(1, 1_000_001)))
+run("a million lines", b"X\n" * 1_000_000, b"".join(b"%d empty\n" % n for n in range(1, 1_000_001)))
 run("a million newlines", b"\n" * 1_000_000, b"".join(b"%d bad\n" % n for n in range(1, 1_000_001)))
 for seed in range(20):
     rng = random.Random(seed)

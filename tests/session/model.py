@@ -3,14 +3,14 @@
 
     python3 model.py < lines > expected
 
-Made from the specification, "The session program": each line is matched whole by a pattern.
+Made from the specification, "The session program", and request M-100: each line is matched whole by a pattern.
 """
 import os
 import re
 import sys
 
 sys.path.insert(0, os.path.join(os.path.dirname(os.path.abspath(__file__)), "..", "models"))
-from device import Board, Refused  # noqa: E402
+from device import NOTHING, Board, Refused  # noqa: E402
 
 DECIMAL = b"(0|[1-9][0-9]*)"
 WRITE = re.compile(b"W " + DECIMAL + b" ([0-9A-Fa-f][0-9A-Fa-f])")
@@ -52,7 +52,7 @@ class Session:
         before = self.board.requests
         try:
             value = self.board.event(event, *numbers)
-            text = shape if shape == "ok" else shape % value
+            text = "empty" if value is NOTHING else shape if shape == "ok" else shape % value
         except Refused as refused:
             text = "refused %d" % refused.args
         raised = not before and self.board.requests

@@ -4,27 +4,18 @@ use mathlib.Core.Bool.{Bool}
 use mathlib.Core.Path.{_≡_, refl, ap, _∙_}
 use Rattle.base.specs.Choice.{if_then_else_}
 use Rattle.board_events.specs.declared.Answer.{Answer}
-use Rattle.board_events.specs.declared.Answer.the-variants.{Done, Byte, Word, Refused}
-use Rattle.board_events.specs.declared.Event.{Event}
 use Rattle.collector_phases.specs.declared.Collector.{Collector}
 use Rattle.collector.specs.Handed.{gapMarked}
 use Rattle.archive_turns.specs.declared.Asked.{Asked}
 use Rattle.archive_turns.specs.declared.Asked.the-variants.{Made, NotMade}
 use Rattle.archive_turns.specs.Machine.{Machine, Host}
-use Rattle.archive_turns.specs.Turn.{eventOf, turnBy}
+use Rattle.archive_turns.specs.Turn.{eventOf, broughtBy, turnBy}
 use Rattle.archive_demand.specs.Run.{Happening, turn, world, Run, begin, _▸_, System, gap, after, gapsIn}
 use Rattle.archive.specs.Simulates.{Simulates, mapped, after-works, after-same}
 
 module _ (M N : Machine) (Working : M .Board → Type 0) (f : M .Board → N .Board) (sim : Simulates M N Working f) (H : Host) where
-  answer-hands : (ev : Event) (c : Collector) (b : M .Board) (a : Answer) → M .answered b ev ≡ a → N .answered (f b) ev ≡ a
-      → turnBy M H (Made ev) c b .handed ≡ turnBy N H (Made ev) c (f b) .handed
-  answer-hands ev c b Done e k = rw (e, k)
-  answer-hands ev c b (Byte v) e k = rw (e, k)
-  answer-hands ev c b (Word v) e k = rw (e, k)
-  answer-hands ev c b (Refused n) e k = rw (e, k)
-
   hands-same : (q : Asked) (c : Collector) (b : M .Board) → Working b → turnBy M H q c b .handed ≡ turnBy N H q c (f b) .handed
-  hands-same (Made ev) c b w = answer-hands ev c b (N .answered (f b) ev) (sim .answers b ev w) refl
+  hands-same (Made ev) c b w = ap (λ (a : Answer). H .reply c (broughtBy a) .handed) (sim .answers b ev w)
   hands-same (NotMade n) c b w = refl
 
   abbrev image : System M → System N

@@ -22,11 +22,12 @@ use Rattle.bus.specs.Bytes.{adBits}
 use Rattle.bus.specs.Registers.{writeChecks, writtenAt, writeEffect, readChecks, byteAt, afterRead, readEffect}
 use Rattle.board_refusal.specs.Refusals.{eventChecks}
 use Rattle.board_step.specs.Act.{acted}
+use Rattle.board_step.specs.Acted.{wordReadAnswer}
 use Rattle.board_step.specs.Step.{ran}
 use Rattle.board_laws.specs.Held.{Held, heldAnswer, happened}
 use Rattle.board_laws.specs.Begins.{begins}
 use Rattle.board_laws.specs.StatusLaws.{statusByte, status-narrow, ef-shown, ff-shown}
-use Rattle.board_events.specs.declared.Answer.the-variants.{Done, Byte, Word}
+use Rattle.board_events.specs.declared.Answer.the-variants.{Done, Byte}
 use Rattle.board_events.specs.declared.Event.the-variants.{WriteByte, ReadByte, ReadWord}
 use Rattle.board_step.specs.States.{State, Works}
 use Rattle.archive_turns.specs.Real.{real}
@@ -83,7 +84,7 @@ module _ (h : Held) where
   unfolding heldAnswer happened eventChecks readChecks placeOf ran acted byteAt afterRead readEffect begins
   look = record { answers = refl; leaves = refl; begins-none = refl }
 
-  fetch : Makes h (ReadWord 0) (Word (oldestOf (h .samples))) (viewOf (happened h (ReadWord 0)))
+  fetch : Makes h (ReadWord 0) (wordReadAnswer (oldestOf (h .samples))) (viewOf (happened h (ReadWord 0)))
   unfolding heldAnswer happened eventChecks ran acted begins
   fetch = record { answers = refl; leaves = refl; begins-none = refl }
 
@@ -135,12 +136,11 @@ looks l w =
 -- ---- the word read
 pub words : (l : State) → Works l → Fetches real l
 words l w =
-    let s : Serves real l (ReadWord 0) (Word (oldestOf (holds l .samples))) (viewOf (happened (holds l) (ReadWord 0))) =
+    let s : Serves real l (ReadWord 0) (wordReadAnswer (oldestOf (holds l .samples))) (viewOf (happened (holds l) (ReadWord 0))) =
     serves l _ _ _ w (fetch (holds l)) in
     record {
-      word = oldestOf (holds l .samples);
-      answers = s .answers;
       begins-none = s .begins-none;
-      oldest = λ c rest e. ap oldestOf e;
+      oldest = λ c rest e. s .answers ∙ ap (λ (h : List ℕ). wordReadAnswer (oldestOf h)) e;
       leaves = λ c rest e. s .leaves ∙ fetched (holds l) c rest e;
+      none = λ e. s .answers ∙ ap (λ (h : List ℕ). wordReadAnswer (oldestOf h)) e;
     }

@@ -5,7 +5,6 @@ use mathlib.Core.List.{List}
 use mathlib.Core.Option.{Option}
 use mathlib.Core.Path.{_≡_, refl, ap, _∙_}
 use lib.IntN.{ℤ}
-use Rattle.board_events.specs.Answers.{valueRead}
 use Rattle.board_events.specs.declared.Answer.{Answer}
 use Rattle.board_events.specs.declared.Event.{Event}
 use Rattle.collector_phases.specs.declared.Access.{Access}
@@ -15,9 +14,8 @@ use Rattle.collector.specs.Handed.{samplesOf, gapMarked}
 use Rattle.archive_turns.specs.declared.Asked.{Asked}
 use Rattle.archive_turns.specs.declared.Asked.the-variants.{Made, NotMade}
 use Rattle.collector_answers.specs.declared.BusAnswer.{BusAnswer}
-use Rattle.collector_answers.specs.declared.BusAnswer.the-variants as bus
 use Rattle.archive_turns.specs.Machine.{View, Machine, Host}
-use Rattle.archive_turns.specs.Turn.{eventOf, Turning, broughtBy, broughtTo, turnBy}
+use Rattle.archive_turns.specs.Turn.{eventOf, Turning, broughtBy, takenBy, turnBy}
 use Rattle.archive_demand.specs.World.{eventIn}
 use Rattle.archive_demand.specs.Run.{Happening, turn, world, Run, begin, _▸_, System, next, after}
 use Rattle.archive_demand.specs.Log.{Log, noteWorld, noteTurn, bringsBy, beginsBy, selected, note, log}
@@ -32,7 +30,7 @@ pub record Simulates (M N : Machine) (Working : M .Board → Type 0) (f : M .Boa
   pub ends : (b : M .Board) (ev : Event) → Working b → M .ends b ev ≡ N .ends (f b) ev
 
 -- notes of equal things are equal
-turn-notes : (x : Access) {a a′ : ℕ} {b b′ : Bool} {s s′ : ℕ} {o o′ : List Sample} {g g′ : Bool} (l : Log)
+turn-notes : (x : Access) {a a′ : BusAnswer} {b b′ : Bool} {s s′ : ℕ} {o o′ : List Sample} {g g′ : Bool} (l : Log)
     → a ≡ a′ → b ≡ b′ → s ≡ s′ → o ≡ o′ → g ≡ g′ → noteTurn x a b s o g l ≡ noteTurn x a′ b′ s′ o′ g′ l
 turn-notes x l p q r t u = rw (p, q, r, t, u)
 
@@ -48,23 +46,14 @@ module _ (M N : Machine) (Working : M .Board → Type 0) (f : M .Board → N .Bo
   abbrev mappedTurn : Turning (M .Board) → Turning (N .Board)
   mappedTurn t = record { collector = t .collector; board = f (t .board); polls = t .polls; handed = t .handed }
 
-  brought : (c : Collector) (b : M .Board) (q : BusAnswer) → mappedTurn (broughtTo H c b q) ≡ broughtTo H c (f b) q
-  brought c b (bus.Number a) = refl
-  brought c b (bus.Refused n) = refl
-
   turned : (q : Asked) (c : Collector) (b : M .Board) → Working b → mappedTurn (turnBy M H q c b) ≡ turnBy N H q c (f b)
   turned (Made ev) c b w =
-      brought c (M .stepped b ev) (broughtBy (M .answered b ev))
-      ∙ ap (λ (y : N .Board). broughtTo H c y (broughtBy (M .answered b ev))) (sim .steps b ev w)
-      ∙ ap (λ (a : Answer). broughtTo H c (N .stepped (f b) ev) (broughtBy a)) (sim .answers b ev w)
+      ap (λ (y : N .Board). takenBy (H .reply c (broughtBy (M .answered b ev))) y) (sim .steps b ev w)
+      ∙ ap (λ (a : Answer). takenBy (H .reply c (broughtBy a)) (N .stepped (f b) ev)) (sim .answers b ev w)
   turned (NotMade n) c b w = refl
 
   turn-works : (q : Asked) (c : Collector) (b : M .Board) → Working b → Working (turnBy M H q c b .board)
-  turn-works (Made ev) c b w = by (broughtBy (M .answered b ev))
-    where
-      by : (a : BusAnswer) → Working (broughtTo H c (M .stepped b ev) a .board)
-      by (bus.Number a) = sim .works b ev w
-      by (bus.Refused n) = sim .works b ev w
+  turn-works (Made ev) c b w = sim .works b ev w
   turn-works (NotMade n) c b w = w
 
   -- ---- a happening
@@ -80,7 +69,7 @@ module _ (M N : Machine) (Working : M .Board → Type 0) (f : M .Board → N .Bo
       ap (λ (y : N .Board). record { board = y; collector = x .collector }) (sim .steps (x .board) (eventIn v) w)
 
   brings-same : (q : Asked) (b : M .Board) → Working b → bringsBy M b q ≡ bringsBy N (f b) q
-  brings-same (Made ev) b w = ap valueRead (sim .answers b ev w)
+  brings-same (Made ev) b w = ap broughtBy (sim .answers b ev w)
   brings-same (NotMade n) b w = refl
 
   begins-same : (q : Asked) (b : M .Board) → Working b → beginsBy M b q ≡ beginsBy N (f b) q

@@ -1,18 +1,21 @@
--- Wrong collectors on the product's own board, and a wrong board, each of which demand 3 rules out by a run.
+-- Wrong collectors on the product's own board, and wrong boards, each of which demand 3 rules out by a run.
 use Prim.Native.Nat.{ℕ, suc, _%_}
 use mathlib.Core.List.{List, [], _∷_, _++_, IsPrefix}
 use mathlib.Core.Option.{Option, none, some}
-use mathlib.Core.Path.{_≡_, refl, ap}
+use mathlib.Core.Path.{_≡_, refl, sym, ap}
 use native.Mathlib.Omega.{arith}
 use lib.IntN.{ℤ, pos}
 use lib.Dec.{eqb, ltb}
 use lib.ListN.{length, drop}
 use Rattle.base.specs.Choice.{if_then_else_}
+use Rattle.base.specs.Laws.{never}
 use Rattle.converter.specs.Codes.{sampleOf}
 use Rattle.converter.specs.Registers.{freshConverter}
 use Rattle.converter.specs.Working.{WorkingConverter, fresh-works}
 use Rattle.converter.specs.declared.channels.Converter.{Converter}
 use Rattle.board_laws.specs.Held.{Held, heldAnswer, happened}
+use Rattle.board_events.specs.declared.Answer.{Answer}
+use Rattle.board_events.specs.declared.Answer.the-variants.{Done, Byte, Word, Nothing, Refused}
 use Rattle.collector_phases.specs.declared.Access.the-variants.{WriteByte, NoAccess}
 use Rattle.collector_phases.specs.declared.Collector.{Collector}
 use Rattle.collector_phases.specs.declared.Phase.the-variants.{Poll, Take}
@@ -21,6 +24,9 @@ use Rattle.collector_steps.specs.declared.Taken.{Taken}
 use Rattle.collector_phases.specs.Phases.{phaseNumber}
 use Rattle.collector_records.specs.Records.{firstRecord}
 use Rattle.collector_phases.specs.Accesses.{accessOf}
+use Rattle.collector_answers.specs.declared.BusAnswer.{BusAnswer}
+use Rattle.collector_answers.specs.declared.BusAnswer.the-variants as bus
+use Rattle.collector_answers.specs.Answers.{isNothing}
 use Rattle.collector_replies.specs.Reply.{replied}
 use Rattle.archive_turns.specs.Machine.{Machine, Host}
 use Rattle.archive_turns.specs.Real.{real}
@@ -31,8 +37,13 @@ use Rattle.archive.specs.RealRuns.{holding, lentWith, heldFrom, heldLog,
 use Rattle.archive.specs.Trials.{from, endsWith, start, sampled, samples}
 
 -- ---- a collector that takes each poll as if STS were 0
+abbrev withoutSTS : BusAnswer → BusAnswer
+withoutSTS (bus.Number a) = bus.Number (a % 128)
+withoutSTS bus.Nothing = bus.Nothing
+withoutSTS (bus.Refused n) = bus.Refused n
+
 abbrev pub hasty : Host
-hasty = record { access = accessOf; reply = λ c a. replied c (if eqb (c .phase) (phaseNumber Poll) then a % 128 else a) }
+hasty = record { access = accessOf; reply = λ c a. replied c (if eqb (c .phase) (phaseNumber Poll) then withoutSTS a else a) }
 
 -- on a board that converts channel 1 as the collector begins
 abbrev pub converting : Converter
@@ -129,3 +140,30 @@ unfolding heldLog samples
 dropping-refuted f =
     let e : _≡_ {A = ℕ} 1 0 = ap firstCode (f .in-order overflowing refl .1) in
     omega arith
+
+-- ---- the board, but that its status never shows EF
+abbrev withoutEF : Answer → Answer
+withoutEF Done = Done
+withoutEF (Byte byte) = Byte (byte % 128)
+withoutEF (Word word) = Word word
+withoutEF Nothing = Nothing
+withoutEF (Refused number) = Refused number
+
+abbrev pub boasting : Machine
+boasting =
+    record {
+      Board = Held;
+      stepped = holding .stepped;
+      answered = λ h ev. withoutEF (heldAnswer h ev);
+      view = holding .view;
+      begins = holding .begins;
+      ends = holding .ends;
+    }
+
+none-there : (word : ℕ) → bus.Nothing ≡ bus.Number word → ⊥
+none-there word e = never (sym (ap isNothing e))
+
+-- a look at an empty memory, and the word read after it is told "nothing"
+pub boasting-refuted : Demand3 boasting words (from boasting (heldFrom freshConverter)) → ⊥
+unfolding heldLog
+boasting-refuted f = let found = f .finds (start ▸ turn) refl in none-there (found .0) (found .1)

@@ -2,7 +2,7 @@
 -- conversion end between a look that shows the memory neither empty nor full and the word read after it. Then each sample handed over bears the
 -- channel selected when its conversion began. From the end of the start to a reported gap none is missing, added or out of order, and each look
 -- that finds samples yields the oldest. A look that shows the memory full yields its 512 samples and then the gap. After a gap, the next sample
--- is the low channel's, as from a fresh start. Triggers and ticks may fall anywhere."
+-- is the low channel's, as from a fresh start. Triggers and ticks may fall anywhere." With request M-100: "Demands 2 and 3 read with the new answer."
 use Prim.Native.Nat.{ℕ, _≤_}
 use mathlib.Core.Bool.{true, false}
 use mathlib.Core.List.{List, [], _∷_, _++_, map, IsPrefix}
@@ -16,9 +16,11 @@ use Rattle.converter.specs.Codes.{codeOf}
 use Rattle.collector_phases.specs.declared.Access.{Access}
 use Rattle.collector_phases.specs.declared.Access.the-variants.{WriteByte, ReadByte, ReadWord, NoAccess}
 use Rattle.samples.specs.declared.Sample.{Sample}
+use Rattle.collector_answers.specs.declared.BusAnswer.the-variants as bus
 use Rattle.archive_turns.specs.Machine.{Machine, Host}
+use Rattle.archive_turns.specs.Turn.{eventOf}
 use Rattle.archive_demand.specs.Run.{Happening, turn, Run, begin, System, next, given, gap, after, givenIn, gapsIn, turns}
-use Rattle.archive_demand.specs.Log.{Log, asks, log}
+use Rattle.archive_demand.specs.Log.{Log, bringsBy, asks, log}
 
 -- the codes of samples, and of the 16-bit numbers that the memory holds
 abbrev pub codesOf : List Sample → List ℤ
@@ -80,6 +82,9 @@ module _ (M : Machine) (H : Host) (s : System M) where
         → H .access (after M H (turned r) q .collector) ≡ (if leb 512 (turns q) then WriteByte 9 0 else look)
     -- From the end of a start to its gap every access is a look or a word read: no run ends otherwise.
     pub goes-on : (r : Run) → seen r .running ≡ true → Either (asked r ≡ look) (asked r ≡ wordRead)
+    -- Request M-100: told "nothing" in a take or a drain, "which the board rules exclude for it alone on the bus": each of its word reads brings a sample. No
+    -- limit is needed.
+    pub finds : (r : Run) → asked r ≡ wordRead → (word : ℕ) × (bringsBy M (at r .board) (eventOf (asked r)) ≡ bus.Number word)
     -- A collector that has been started makes 9←0 first.
     pub begins : asked begin ≡ WriteByte 9 0
     -- After 9←0 comes a poll; a poll that finds a conversion in progress is followed by a poll, or, where it was the last, by no access (15).

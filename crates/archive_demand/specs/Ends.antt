@@ -145,7 +145,6 @@ module _ (t : Settings) (next : ℕ) (v : View) (l : Log) (code : ℤ) (ch : ℕ
         n = k .n + 1;
         inner = queue-merge t next v₁ l₁ (k .Q) (sample (k .inner .k) code ∷ []) (queue-end t next v l (k .Q) [] code ch s e (k .inner));
         holds = rw (fits, words-append) (ap (λ (u : List ℕ). u ++ (sampleOf code ∷ [])) (k .holds));
-        some-held = rw fits (rw length-append (omega arith));
         waits = rw (k .waits);
         few = rw fits (rw length-append (let y : length (v .held) ≤ 511 + k .n = k .few in omega arith));
       }

@@ -6,6 +6,7 @@ use mathlib.Core.Path.{_≡_, refl, sym, _∙_, ap}
 use native.Mathlib.Omega.{arith}
 use borrow.Author.Tests.{leb-false}
 use lib.ListN.{length}
+use Rattle.base.specs.Laws.{never}
 use Rattle.board_events.specs.declared.Event.the-variants as event
 use Rattle.converter.specs.Codes.{sampleOf}
 use Rattle.collector_phases.specs.declared.Access.{Access}
@@ -17,11 +18,13 @@ use Rattle.collector_steps.specs.declared.Taken.{Taken}
 use Rattle.collector_phases.specs.declared.Phase.{Phase}
 use Rattle.collector_phases.specs.declared.Phase.the-variants.{Take, Drain}
 use Rattle.collector_phases.specs.Phases.{phaseOf}
-use Rattle.collector_answers.specs.Answers.{sampleAt}
+use Rattle.collector_answers.specs.declared.BusAnswer.{BusAnswer}
+use Rattle.collector_answers.specs.declared.BusAnswer.the-variants as bus
+use Rattle.collector_answers.specs.Answers.{isNothing, sampleAt}
 use Rattle.collector_phases.specs.Fit.{FitCollector}
 use Rattle.collector.specs.Handed.{samplesOf, gapMarked}
-use Rattle.collector.specs.Steps.{Step}
-use Rattle.collector.specs.Steps.{taken, drained, closed}
+use Rattle.collector.specs.Steps.{Step, same-word}
+use Rattle.collector.specs.Steps.{taken, take-nothing, drained, closed, drain-nothing}
 use Rattle.archive_turns.specs.Machine.{View, Machine}
 use Rattle.archive_turns.specs.Hosts.{words}
 use Rattle.archive_demand.specs.Log.{Log, noteTurn, selected}
@@ -36,12 +39,21 @@ module _ (M : Machine) (b : M .Board) (c : Collector) (l : Log) where
   abbrev pub Now : Phase → Type 0
   Now p = Fact p (c .settings) (c .next) (c .left) (M .view b) l
 
-  abbrev pub After : Access → ℕ → Taken → View → Type 0
+  abbrev pub After : Access → BusAnswer → Taken → View → Type 0
   After x a r v′ =
       FactOf (r .collector) v′ (noteTurn x a false (selected M b) (samplesOf (r .handed)) (gapMarked (r .handed)) l)
 
+-- the first of a list is one number
+first-same : (m n : ℕ) (x y : List ℕ) → m ∷ x ≡ n ∷ y → m ≡ n
+first-same m n x y e = ap first e
+  where
+    first : List ℕ → ℕ
+    first [] = 0
+    first (k ∷ z) = k
+
 module _ (M : Machine) (Working : M .Board → Type 0) (laws : Laws M Working) where
-  module _ (b : M .Board) (wk : Working b) (c : Collector) (fc : FitCollector c) (l : Log) where
+  -- d is the oldest of those held
+  module _ (b : M .Board) (wk : Working b) (c : Collector) (fc : FitCollector c) (l : Log) (d : ℕ) (rest : List ℕ) (held : M .view b .held ≡ d ∷ rest) where
     abbrev t : Settings
     t = c .settings
 
@@ -57,12 +69,12 @@ module _ (M : Machine) (Working : M .Board → Type 0) (laws : Laws M Working) w
 
     -- the sample that is handed over
     abbrev y₁ : Sample
-    y₁ = sampleAt (c .next) (F .word)
+    y₁ = sampleAt (c .next) d
 
     taking-oldest : (k : Taking t (c .next) v l) → Oldest (c .next) t (k .inner .m) (k .Q) [] (v .held)
     taking-oldest k =
         oldest-of (c .next) t (k .inner .m) (k .Q) [] (v .held)
-        (let e : length (v .held) ≡ length (k .Q) = ap length (k .holds) ∙ length-words (k .Q) in omega (arith, k .some-held))
+        (let e : length (v .held) ≡ length (k .Q) = ap length (k .holds) ∙ length-words (k .Q) in omega (arith, ap length held))
         (k .holds ∙ sym (append-nil (wordsOf (k .Q)))) (k .inner .queue)
 
     draining-oldest : (left : ℕ) (k : Draining left t (c .next) v l) → Oldest (c .next) t (k .inner .m) (k .Q) (k .X) (v .held)
@@ -72,7 +84,7 @@ module _ (M : Machine) (Working : M .Board → Type 0) (laws : Laws M Working) w
     -- it is the oldest, and that leaves
     module _ (m : ℕ) (Q : List Sample) (X : List ℕ) (o : Oldest (c .next) t m Q X (v .held)) where
       is-oldest : y₁ ≡ o .y
-      is-oldest = ap (sampleAt (c .next)) (F .oldest (sampleOf (o .y .code)) (wordsOf (o .rest) ++ X) (o .whole)) ∙ o .sampled
+      is-oldest = ap (sampleAt (c .next)) (first-same d (sampleOf (o .y .code)) rest (wordsOf (o .rest) ++ X) (sym held ∙ o .whole)) ∙ o .sampled
 
       leaves : v₁ ≡ leaving (wordsOf (o .rest) ++ X) v
       leaves = F .leaves (sampleOf (o .y .code)) (wordsOf (o .rest) ++ X) (o .whole)
@@ -84,9 +96,10 @@ module _ (M : Machine) (Working : M .Board → Type 0) (laws : Laws M Working) w
           queue-hand t (c .next) v l l′ (o .y) (o .rest) L (wordsOf (o .rest) ++ X) d e
           (f ∙ ap (λ (y : Sample). l .handed ++ (y ∷ [])) is-oldest) (rw (o .cut) at q)
 
-    pub take-after : (r : Taken) → Step c (F .word) Take r → Now M b c l Take → After M b c l (ReadWord 0) (F .word) r v₁
+    pub take-after : (r : Taken) → Step c (bus.Number d) Take r → Now M b c l Take → After M b c l (ReadWord 0) (bus.Number d) r v₁
     unfolding phaseOf
-    take-after r taken k = (
+    take-after r (take-nothing i) k = never (ap isNothing i)
+    take-after r (taken word i) k = rw (sym (same-word d word i)) (
       running-hand t (c .next) v l y₁ refl (k .0),
       λ w.
           let z = k .1 w in
@@ -101,9 +114,10 @@ module _ (M : Machine) (Working : M .Board → Type 0) (laws : Laws M Working) w
           }),
     )
 
-    pub drain-after : (r : Taken) → Step c (F .word) Drain r → Now M b c l Drain → After M b c l (ReadWord 0) (F .word) r v₁
+    pub drain-after : (r : Taken) → Step c (bus.Number d) Drain r → Now M b c l Drain → After M b c l (ReadWord 0) (bus.Number d) r v₁
     unfolding phaseOf
-    drain-after r (drained e) k = (
+    drain-after r (drain-nothing i) k = never (ap isNothing i)
+    drain-after r (drained word i e) k = rw (sym (same-word d word i)) (
       running-hand t (c .next) v l y₁ refl (k .0),
       λ w.
           let z = k .1 w in
@@ -116,11 +130,12 @@ module _ (M : Machine) (Working : M .Board → Type 0) (laws : Laws M Working) w
             X = z .X;
             inner = left-over (z .inner .m) (z .Q) (z .X) o (handing t (c .next) v l y₁) (z .L) refl refl refl (z .inner);
             holds = refl;
-            size = (let d : suc (length (o .rest)) ≡ c .left = ap length (sym (o .cut)) ∙ z .size in omega arith);
+            size = (let s : suc (length (o .rest)) ≡ c .left = ap length (sym (o .cut)) ∙ z .size in omega arith);
             more = omega arith;
           }),
+      rw (F .leaves d rest held) (omega (arith, ap length held, k .2)),
     )
-    drain-after r (closed e) k = (
+    drain-after r (closed word i e) k = rw (sym (same-word d word i)) (
       record {
         prefix = λ w.
             let z = k .1 w in

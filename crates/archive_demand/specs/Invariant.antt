@@ -8,15 +8,14 @@ use Rattle.collector_phases.specs.Fit.{FitSettings, FitCollector}
 use Rattle.collector_phases.specs.Accesses.{accessOf}
 use Rattle.collector_replies.specs.Reply.{replied}
 use Rattle.collector_records.specs.Records.{firstRecord}
-use Rattle.collector.specs.Counts.{step-holds}
-use Rattle.collector.specs.Steps.{step, access-fit}
+use Rattle.collector.specs.Counts.{reply-holds}
+use Rattle.collector.specs.Steps.{reply, access-fit}
 use Rattle.collector.specs.Kept.{begun-fit, replied-fit}
 use Rattle.archive_turns.specs.Machine.{Machine}
 use Rattle.archive_turns.specs.declared.Asked.{Asked}
 use Rattle.archive_turns.specs.declared.Asked.the-variants.{Made, NotMade}
 use Rattle.collector_answers.specs.declared.BusAnswer.{BusAnswer}
-use Rattle.collector_answers.specs.declared.BusAnswer.the-variants as bus
-use Rattle.archive_turns.specs.Turn.{eventOf, broughtBy, broughtTo, turnBy}
+use Rattle.archive_turns.specs.Turn.{eventOf, broughtBy, turnBy}
 use Rattle.archive_turns.specs.Hosts.{words}
 use Rattle.archive_demand.specs.World.{eventIn}
 use Rattle.archive_demand.specs.Run.{Happening, turn, world, Run, begin, _▸_, System, next, after}
@@ -25,20 +24,6 @@ use Rattle.archive_demand.specs.Laws.{Laws}
 use Rattle.archive_demand.specs.Phases.{FactOf}
 use Rattle.archive_demand.specs.Worlds.{world-kept}
 use Rattle.archive_demand.specs.Kept.{turn-kept}
-
--- ---- what a turn leaves: a fit collector with its settings, and the board that the access leaves
-module _ {B : Type 0} (c : Collector) (fc : FitCollector c) (b : B) where
-  pub brought-fit : (x : BusAnswer) → FitCollector (broughtTo words c b x .collector)
-  brought-fit (bus.Number a) = replied-fit c fc a
-  brought-fit (bus.Refused n) = fc
-
-  pub brought-set : (x : BusAnswer) → broughtTo words c b x .collector .settings ≡ c .settings
-  brought-set (bus.Number a) = step-holds c a (phaseOf (c .phase)) (replied c a) (step c a fc) .0
-  brought-set (bus.Refused n) = refl
-
-  pub brought-board : (x : BusAnswer) → broughtTo words c b x .board ≡ b
-  brought-board (bus.Number a) = refl
-  brought-board (bus.Refused n) = refl
 
 module _ (M : Machine) (Working : M .Board → Type 0) (laws : Laws M Working) where
   -- the board works, and the collector is fit and has these settings
@@ -51,11 +36,7 @@ module _ (M : Machine) (Working : M .Board → Type 0) (laws : Laws M Working) w
     turn-sound : (x : Asked) → Sound (c .settings) (record { board = turnBy M words x c b .board; collector = turnBy M words x c b .collector })
     turn-sound (Made ev) =
         let y : BusAnswer = broughtBy (M .answered b ev) in
-        record {
-          works = rw (brought-board c fc (M .stepped b ev) y) (laws .works b ev wk);
-          fit = brought-fit c fc (M .stepped b ev) y;
-          same = brought-set c fc (M .stepped b ev) y;
-        }
+        record { works = laws .works b ev wk; fit = replied-fit c fc y; same = reply-holds c (fc .phase) y (replied c y) (reply c y fc) .0 }
     turn-sound (NotMade n) = record { works = wk; fit = fc; same = refl }
 
   sound-next : (t : Settings) (x : System M) (e : Happening) → Sound t x → Sound t (next M words x e)

@@ -13,7 +13,7 @@ use Rattle.converter.specs.Channels.{started, endStarts, ended}
 use Rattle.converter.specs.Codes.{sampleOf, codeOf}
 use Rattle.converter.specs.Registers.{withChannels, withBits}
 use Rattle.board_events.specs.declared.Answer.{Answer}
-use Rattle.board_events.specs.declared.Answer.the-variants.{Done, Byte, Word}
+use Rattle.board_events.specs.declared.Answer.the-variants.{Done, Byte, Word, Nothing}
 use Rattle.board_events.specs.declared.Event.{Event}
 use Rattle.board_events.specs.declared.Event.the-variants.{WriteByte, ReadByte, ReadWord}
 use Rattle.collector_settings.specs.declared.Settings.{Settings}
@@ -78,13 +78,12 @@ pub record Looks (M : Machine) (b : M .Board) : Type 0 where
   pub ef : EF byte ≡ leb (length (M .view b .held)) 0
   pub ff : FF byte ≡ leb 512 (length (M .view b .held))
 
--- a word read: the oldest sample, which leaves
+-- a word read: the oldest sample, which leaves; with none held, nothing
 pub record Fetches (M : Machine) (b : M .Board) : Type 0 where
-  pub word : ℕ
-  pub answers : M .answered b (ReadWord 0) ≡ Word word
   pub begins-none : M .begins b (ReadWord 0) ≡ false
-  pub oldest : (c : ℕ) (h : List ℕ) → M .view b .held ≡ c ∷ h → word ≡ c
+  pub oldest : (c : ℕ) (h : List ℕ) → M .view b .held ≡ c ∷ h → M .answered b (ReadWord 0) ≡ Word c
   pub leaves : (c : ℕ) (h : List ℕ) → M .view b .held ≡ c ∷ h → M .view (M .stepped b (ReadWord 0)) ≡ leaving h (M .view b)
+  pub none : M .view b .held ≡ [] → M .answered b (ReadWord 0) ≡ Nothing
 
 pub record Laws (M : Machine) (Working : M .Board → Type 0) : Type 0 where
   -- a working board stays one, and holds at most 512 samples

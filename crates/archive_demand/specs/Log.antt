@@ -8,7 +8,8 @@ use mathlib.Core.Option.{Option, none, some}
 use lib.IntN.{ℤ}
 use lib.Dec.{eqb, leb}
 use Rattle.base.specs.Choice.{if_then_else_}
-use Rattle.board_events.specs.Answers.{valueRead}
+use Rattle.collector_answers.specs.declared.BusAnswer.{BusAnswer}
+use Rattle.collector_answers.specs.declared.BusAnswer.the-variants as bus
 use Rattle.collector_phases.specs.declared.Access.{Access}
 use Rattle.collector_phases.specs.declared.Access.the-variants.{WriteByte, ReadByte, ReadWord, NoAccess}
 use Rattle.samples.specs.declared.Sample.{Sample}
@@ -17,7 +18,7 @@ use Rattle.collector.specs.Handed.{isGo}
 use Rattle.archive_turns.specs.declared.Asked.{Asked}
 use Rattle.archive_turns.specs.declared.Asked.the-variants.{Made, NotMade}
 use Rattle.archive_turns.specs.Machine.{Machine, Host}
-use Rattle.archive_turns.specs.Turn.{eventOf}
+use Rattle.archive_turns.specs.Turn.{eventOf, broughtBy}
 use Rattle.archive_demand.specs.World.{eventIn}
 use Rattle.archive_demand.specs.Run.{Happening, turn, world, Run, begin, _▸_, System, given, gap, after}
 
@@ -68,15 +69,20 @@ noteWorld e begins selected l =
       within = l .within && atMostOne (endCounted e (l .waiting));
     }
 
--- ---- a turn: an access, the number that it brought, and what was handed over
+-- ---- a turn: an access, what it brought, and what was handed over
 -- the stretch of the limit begins at a look that shows the memory neither empty nor full, and ends at a word read
-abbrev pub stretch : Access → ℕ → Option ℕ → Option ℕ
+abbrev pub lookStretch : BusAnswer → Option ℕ → Option ℕ
+lookStretch (bus.Number a) k = if EF a || FF a then none else some 0
+lookStretch bus.Nothing k = k
+lookStretch (bus.Refused n) k = k
+
+abbrev pub stretch : Access → BusAnswer → Option ℕ → Option ℕ
 stretch (WriteByte o v) a k = k
-stretch (ReadByte o) a k = if eqb o 7 then if EF a || FF a then none else some 0 else k
+stretch (ReadByte o) a k = if eqb o 7 then lookStretch a k else k
 stretch (ReadWord o) a k = none
 stretch (NoAccess n) a k = k
 
-abbrev pub noteTurn : Access → ℕ → Bool → ℕ → List Sample → Bool → Log → Log
+abbrev pub noteTurn : Access → BusAnswer → Bool → ℕ → List Sample → Bool → Log → Log
 noteTurn x a begins selected out gap l =
     record {
       samples = if isGo x then [] else l .samples;
@@ -89,9 +95,10 @@ noteTurn x a begins selected out gap l =
     }
 
 module _ (M : Machine) where
-  abbrev pub bringsBy : M .Board → Asked → ℕ
-  bringsBy b (Made ev) = valueRead (M .answered b ev)
-  bringsBy b (NotMade n) = 0
+  -- what an access brings; where none is named, the number by which it is not
+  abbrev pub bringsBy : M .Board → Asked → BusAnswer
+  bringsBy b (Made ev) = broughtBy (M .answered b ev)
+  bringsBy b (NotMade n) = bus.Refused n
 
   abbrev pub beginsBy : M .Board → Asked → Bool
   beginsBy b (Made ev) = M .begins b ev

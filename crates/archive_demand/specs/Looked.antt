@@ -19,16 +19,18 @@ use Rattle.collector_phases.specs.declared.Phase.the-variants.{Look}
 use Rattle.collector_phases.specs.Phases.{phaseOf, accessIn}
 use Rattle.collector_phases.specs.Fit.{FitCollector}
 use Rattle.collector_phases.specs.Accesses.{accessOf}
+use Rattle.collector_answers.specs.declared.BusAnswer.the-variants as bus
 use Rattle.collector_replies.specs.Reply.{replied}
 use Rattle.collector.specs.Handed.{samplesOf, gapMarked}
 use Rattle.collector.specs.Steps.{Step, access-fit}
-use Rattle.collector.specs.Steps.{look-wide, look-empty, look-full, look-few}
+use Rattle.collector.specs.Steps.{look-no-byte, look-empty, look-full, look-few}
 use Rattle.archive_turns.specs.Machine.{View, Machine}
+use Rattle.archive_turns.specs.Turn.{takenBy}
 use Rattle.archive_turns.specs.Hosts.{words}
 use Rattle.archive_demand.specs.Run.{turn, Run, begin, _▸_, System, turning, next, given, gap, after, givenIn, gapsIn, turns}
 use Rattle.archive_demand.specs.Demand.{codesOf, codesIn, owed, look}
 use Rattle.archive_demand.specs.Laws.{Laws}
-use Rattle.archive_demand.specs.Sights.{status, shows-none, shows-some, shows-all, shows-few}
+use Rattle.archive_demand.specs.Sights.{status, shows-none, shows-some, shows-all, shows-few, first-of}
 use Rattle.archive_demand.specs.Invariant.{Sound, sound}
 use Rattle.archive_demand.specs.Yields.{Stage, marked, Owing, owing, turn-of, step-in}
 
@@ -61,13 +63,7 @@ module _ (M : Machine) (Working : M .Board → Type 0) (laws : Laws M Working) w
     a = status M Working laws (x .board) wk
 
     -- the look with its reply
-    looked : turning M words x
-        ≡ record {
-          collector = replied (x .collector) a .collector;
-          board = M .stepped (x .board) (event.ReadByte 7);
-          polls = replied (x .collector) a .polls;
-          handed = replied (x .collector) a .handed;
-        }
+    looked : turning M words x ≡ takenBy (replied (x .collector) (bus.Number a)) (M .stepped (x .board) (event.ReadByte 7))
     looked = turn-of M Working laws x fc ∙ rw (p, laws .looks (x .board) wk .serves .answers)
 
     held-after : M .view (M .stepped (x .board) (event.ReadByte 7)) .held ≡ h
@@ -88,13 +84,9 @@ module _ (M : Machine) (Working : M .Board → Type 0) (laws : Laws M Working) w
     nil-of [] e = refl
     nil-of (n ∷ u) e = absurd (omega arith)
 
-    first-of : (u : List ℕ) → 1 ≤ length u → (n : ℕ) × (rest : List ℕ) × (u ≡ n ∷ rest)
-    first-of [] e = absurd (omega arith)
-    first-of (n ∷ u) e = (n, u, refl)
-
-    opens : (r : Taken) → Step (x .collector) a Look r → Open r
+    opens : (r : Taken) → Step (x .collector) (bus.Number a) Look r → Open r
     unfolding phaseOf
-    opens r (look-wide e) = never (sym (laws .looks (x .board) wk .narrow) ∙ e)
+    opens r (look-no-byte e) = never (sym (laws .looks (x .board) wk .narrow) ∙ e)
     opens r (look-empty e f) =
         let n : length h ≡ 0 = shows-none M Working laws (x .board) wk f in
         let o = owed-none h n in
@@ -139,7 +131,7 @@ module _ (M : Machine) (Working : M .Board → Type 0) (laws : Laws M Working) w
 
     opened : Opened x
     opened =
-        let k = opens (replied (x .collector) a) (step-in M Working laws (x .collector) a Look fc p) in
+        let k = opens (replied (x .collector) (bus.Number a)) (step-in M Working laws (x .collector) a Look fc p) in
         record {
           D = k .D;
           X = k .X;

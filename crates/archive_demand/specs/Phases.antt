@@ -93,7 +93,6 @@ pub record Taking (t : Settings) (next : ℕ) (v : View) (l : Log) : Type 0 wher
   pub n : ℕ
   pub inner : Queue t next v l Q []
   pub holds : v .held ≡ wordsOf Q
-  pub some-held : 1 ≤ length (v .held)
   pub waits : l .waiting ≡ some n
   pub few : length (v .held) ≤ 511 + n
 
@@ -107,6 +106,7 @@ pub record Draining (left : ℕ) (t : Settings) (next : ℕ) (v : View) (l : Log
   pub size : length Q ≡ left
   pub more : 1 ≤ left
 
+-- in a take a sample is held, and in a drain as many as are left to read, whatever the limit
 abbrev pub Fact : Phase → Settings → ℕ → ℕ → View → Log → Type 0
 Fact Stop t next left v l = Idle l × (next ≡ t .low)
 Fact Poll t next left v l = Idle l × (next ≡ t .low) × (on (v .converter .clken) ≡ false)
@@ -118,8 +118,8 @@ Fact Go t next left v l =
     Quiet t next v l × (v .held ≡ []) × (on (v .converter .scanen) ≡ false) × (v .converter .low ≡ t .low) × (v .converter .high ≡ t .high)
     × (v .converter .selected ≡ t .low)
 Fact Look t next left v l = Running t next l × (l .within ≡ true → Looking t next v l)
-Fact Take t next left v l = Running t next l × (l .within ≡ true → Taking t next v l)
-Fact Drain t next left v l = Running t next l × (l .within ≡ true → Draining left t next v l)
+Fact Take t next left v l = Running t next l × (l .within ≡ true → Taking t next v l) × (1 ≤ length (v .held))
+Fact Drain t next left v l = Running t next l × (l .within ≡ true → Draining left t next v l) × (left ≤ length (v .held))
 Fact Stuck t next left v l = Idle l
 Fact Unknown t next left v l = ⊥
 

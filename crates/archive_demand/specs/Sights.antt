@@ -1,13 +1,19 @@
 -- What the flags of a look tell of the samples held. Assumes nothing.
 use Prim.Native.Nat.{ℕ, _≤_, _<_}
 use mathlib.Core.Bool.{true, false}
-use mathlib.Core.Path.{_≡_, sym, _∙_}
+use mathlib.Core.List.{List, [], _∷_}
+use mathlib.Core.Path.{_≡_, refl, sym, _∙_}
 use native.Mathlib.Omega.{arith}
 use borrow.Author.Tests.{leb-true, leb-false}
 use lib.ListN.{length}
 use Rattle.collector_answers.specs.Answers.{EF, FF}
 use Rattle.archive_turns.specs.Machine.{Machine}
 use Rattle.archive_demand.specs.Laws.{Laws}
+
+-- where some are held, the oldest and the others
+pub first-of : (u : List ℕ) → 1 ≤ length u → (n : ℕ) × (rest : List ℕ) × (u ≡ n ∷ rest)
+first-of [] e = absurd (omega arith)
+first-of (n ∷ u) e = (n, u, refl)
 
 module _ (M : Machine) (Working : M .Board → Type 0) (laws : Laws M Working) (b : M .Board) (w : Working b) where
   abbrev pub n : ℕ

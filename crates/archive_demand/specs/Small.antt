@@ -12,13 +12,12 @@ use Rattle.base.specs.Flags.{on}
 use Rattle.base.specs.Choice.{if_then_else_}
 use Rattle.base.specs.Fields.{field}
 use Rattle.base.specs.Weights.{weightOf}
-use Rattle.fifo.specs.Samples.{oldestOf}
 use Rattle.converter.specs.Channels.{endStarts}
 use Rattle.converter.specs.Codes.{sampleOf}
 use Rattle.converter.specs.Registers.{withBits, statusBits}
 use Rattle.requests.specs.Registers.{FIFORST}
 use Rattle.board_events.specs.declared.Answer.{Answer}
-use Rattle.board_events.specs.declared.Answer.the-variants.{Done, Byte, Word}
+use Rattle.board_events.specs.declared.Answer.the-variants.{Done, Byte, Word, Nothing}
 use Rattle.board_events.specs.declared.Event.{Event}
 use Rattle.board_events.specs.declared.Event.the-variants.{WriteByte, ReadByte, ReadWord, ConversionEnd, DinPins, LatchLevel, PortPins, Tick, TransferEnd}
 use Rattle.archive_turns.specs.Machine.{View, Machine}
@@ -58,10 +57,14 @@ adByte v = statusBits (v .converter) + 96
 abbrev pub readAnswer : View → ℕ → Answer
 readAnswer v n = if eqb n 7 then Byte (fifoByte v) else if eqb n 8 then Byte (adByte v) else Done
 
--- the word read takes the oldest sample; with none held it changes nothing
+-- the word read takes the oldest sample; with none held it answers so and changes nothing
 abbrev pub fetched : View → List ℕ → View
 fetched v [] = v
 fetched v (c ∷ rest) = leaving rest v
+
+abbrev pub fetchedAnswer : List ℕ → Answer
+fetchedAnswer [] = Nothing
+fetchedAnswer (c ∷ rest) = Word c
 
 -- ---- any event
 -- an edge begins a conversion with CLKEN, unless one runs
@@ -82,7 +85,7 @@ smallStep v TransferEnd = v
 abbrev pub smallAnswer : View → Event → Answer
 smallAnswer v (WriteByte n x) = Done
 smallAnswer v (ReadByte n) = readAnswer v n
-smallAnswer v (ReadWord n) = if eqb n 0 then Word (oldestOf (v .held)) else Done
+smallAnswer v (ReadWord n) = if eqb n 0 then fetchedAnswer (v .held) else Done
 smallAnswer v (ConversionEnd code) = Done
 smallAnswer v (DinPins d) = Done
 smallAnswer v (LatchLevel level) = Done

@@ -14,7 +14,7 @@ use Rattle.base.specs.Choice.{if_then_else_}
 use Rattle.base.specs.Laws.{by-choice}
 use Rattle.base.specs.Weights.{weight-le}
 use Rattle.base.specs.Shown.{shows}
-use Rattle.fifo.specs.Samples.{oldestOf, pushed}
+use Rattle.fifo.specs.Samples.{pushed}
 use Rattle.converter.specs.Channels.{endStarts}
 use Rattle.converter.specs.Codes.{sampleOf, codeOf, code-of-sample}
 use Rattle.requests.specs.Registers.{FIFORST}
@@ -26,7 +26,7 @@ use Rattle.archive_turns.specs.Machine.{View}
 use Rattle.archive_demand.specs.World.{World, conversion-end, din-pins, latch-level, port-pins, tick, transfer-end, eventIn}
 use Rattle.archive_demand.specs.Laws.{starting, ending, clkenWritten, lowWritten, highWritten}
 use Rattle.archive_demand.specs.Laws.{Happens, quiet, trigger, end, Serves, Polls, Looks, Fetches, Laws}
-use Rattle.archive_demand.specs.Small.{small, smallStep, smallBegins, smallEnds, edgeBegins, written, flagByte, fifoByte, adByte, fetched}
+use Rattle.archive_demand.specs.Small.{small, smallStep, smallBegins, smallEnds, edgeBegins, written, flagByte, fifoByte, adByte, fetched, fetchedAnswer}
 
 -- ---- a small board works while it holds at most 512 samples
 pub record SmallWorks (v : View) : Type 0 where
@@ -116,11 +116,10 @@ looks v =
 words : (v : View) → Fetches small v
 words v =
     record {
-      word = oldestOf (v .held);
-      answers = refl;
       begins-none = refl;
-      oldest = λ c rest e. ap oldestOf e;
+      oldest = λ c rest e. ap fetchedAnswer e;
       leaves = λ c rest e. ap (fetched v) e;
+      none = λ e. ap fetchedAnswer e;
     }
 
 within : (n : ℕ) → n ≤ 31 → n % 32 ≡ n

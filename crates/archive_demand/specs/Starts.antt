@@ -16,13 +16,15 @@ use Rattle.collector_phases.specs.declared.Phase.{Phase}
 use Rattle.collector_phases.specs.declared.Phase.the-variants.{Stop, Poll, Range, Clear, Low, High, Go, Look, Take, Drain, Stuck, Unknown}
 use Rattle.collector_settings.specs.Settings.{clockByte}
 use Rattle.collector_phases.specs.Phases.{phaseOf, accessIn}
+use Rattle.collector_answers.specs.declared.BusAnswer.{BusAnswer}
+use Rattle.collector_answers.specs.declared.BusAnswer.the-variants as bus
 use Rattle.collector_answers.specs.Answers.{wide, STS}
 use Rattle.collector_phases.specs.Fit.{FitCollector}
 use Rattle.collector_phases.specs.Accesses.{accessOf}
 use Rattle.collector_replies.specs.Reply.{replied}
 use Rattle.collector.specs.Handed.{samplesOf, gapMarked}
 use Rattle.collector.specs.Steps.{Step, access-fit}
-use Rattle.collector.specs.Steps.{stopped, poll-wide, poll-free, poll-again, poll-last, ranged, cleared, lowered, raised, went, stands}
+use Rattle.collector.specs.Steps.{stopped, poll-no-byte, poll-free, poll-again, poll-last, ranged, cleared, lowered, raised, went, stands}
 use Rattle.archive_turns.specs.Machine.{Machine}
 use Rattle.archive_turns.specs.Turn.{takenBy}
 use Rattle.archive_turns.specs.Hosts.{words}
@@ -52,9 +54,9 @@ pub record HandsNothing (r : Taken) : Type 0 where
   pub samples : samplesOf (r .handed) ≡ []
   pub gap : gapMarked (r .handed) ≡ false
 
-silent-step : (c : Collector) (a : ℕ) (p : Phase) (r : Taken) → Starting p → Step c a p r → HandsNothing r
+silent-step : (c : Collector) (a : BusAnswer) (p : Phase) (r : Taken) → Starting p → Step c a p r → HandsNothing r
 silent-step c a Stop r s stopped = record { samples = refl; gap = refl }
-silent-step c a Poll r s (poll-wide e) = record { samples = refl; gap = refl }
+silent-step c a Poll r s (poll-no-byte e) = record { samples = refl; gap = refl }
 silent-step c a Poll r s (poll-free e f) = record { samples = refl; gap = refl }
 silent-step c a Poll r s (poll-again e f g) = record { samples = refl; gap = refl }
 silent-step c a Poll r s (poll-last e f g) = record { samples = refl; gap = refl }
@@ -86,14 +88,14 @@ module _ (M : Machine) (Working : M .Board → Type 0) (laws : Laws M Working) w
     module _ (p : Phase) (e : phaseOf (c .phase) ≡ p) where
       -- a write
       wrote : (o n : ℕ) → accessIn p (c .settings) ≡ WriteByte o n → M .answered b (event.WriteByte o n) ≡ Done
-          → turning M words x ≡ takenBy (replied c 0) (M .stepped b (event.WriteByte o n))
+          → turning M words x ≡ takenBy (replied c (bus.Number 0)) (M .stepped b (event.WriteByte o n))
       wrote o n a d = turn-of M Working laws x fc ∙ rw (e, a, d)
 
       polled : accessIn p (c .settings) ≡ ReadByte 8
-          → turning M words x ≡ takenBy (replied c (laws .polls b wk .byte)) (M .stepped b (event.ReadByte 8))
+          → turning M words x ≡ takenBy (replied c (bus.Number (laws .polls b wk .byte))) (M .stepped b (event.ReadByte 8))
       polled a = turn-of M Working laws x fc ∙ rw (e, a, laws .polls b wk .serves .answers)
 
-      st : (a : ℕ) → Step c a p (replied c a)
+      st : (a : ℕ) → Step c (bus.Number a) p (replied c (bus.Number a))
       st a = step-in M Working laws c a p fc e
 
     abbrev Quietly : Type 0
@@ -104,12 +106,13 @@ module _ (M : Machine) (Working : M .Board → Type 0) (laws : Laws M Working) w
 
     quiet-write : (p : Phase) → phaseOf (c .phase) ≡ p → Starting p → (o n : ℕ) → accessIn p (c .settings) ≡ WriteByte o n
         → M .answered b (event.WriteByte o n) ≡ Done → Quietly
-    quiet-write p e s o n a d = by-reply (replied c 0) _ (wrote p e o n a d) (silent-step c 0 p (replied c 0) s (st p e 0))
+    quiet-write p e s o n a d =
+        let r = replied c (bus.Number 0) in by-reply r _ (wrote p e o n a d) (silent-step c (bus.Number 0) p r s (st p e 0))
 
     pub quiet-turn : (p : Phase) → phaseOf (c .phase) ≡ p → Starting p → Quietly
     quiet-turn Stop e s = quiet-write Stop e s 9 0 refl (laws .stops b wk .answers)
     quiet-turn Poll e s =
-        by-reply _ _ (polled Poll e refl) (silent-step c (laws .polls b wk .byte) Poll _ s (st Poll e (laws .polls b wk .byte)))
+        by-reply _ _ (polled Poll e refl) (silent-step c (bus.Number (laws .polls b wk .byte)) Poll _ s (st Poll e (laws .polls b wk .byte)))
     quiet-turn Range e s = quiet-write Range e s 11 (c .settings .range) refl (laws .ranges b (c .settings .range) wk .answers)
     quiet-turn Clear e s = quiet-write Clear e s 7 2 refl (laws .clears b wk .answers)
     quiet-turn Low e s =
@@ -128,7 +131,7 @@ module _ (M : Machine) (Working : M .Board → Type 0) (laws : Laws M Working) w
         → phaseOf (next M words x turn .collector .phase) ≡ q
     to-phase r b′ q e f = rw e f
 
-    step-on : (n : ℕ) → n < 5 → (r : Taken) → Step c 0 (onward n) r → phaseOf (r .collector .phase) ≡ onward (suc n)
+    step-on : (n : ℕ) → n < 5 → (r : Taken) → Step c (bus.Number 0) (onward n) r → phaseOf (r .collector .phase) ≡ onward (suc n)
     unfolding phaseOf
     step-on zero h r ranged = refl
     step-on (suc zero) h r cleared = refl
@@ -152,14 +155,14 @@ module _ (M : Machine) (Working : M .Board → Type 0) (laws : Laws M Working) w
         to-phase _ _ Look (wrote Go e 9 (clockByte (c .settings)) refl (laws .goes b (c .settings) wk .answers)) (step-on 4 h _ (st Go e 0))
     onward-turn (suc (suc (suc (suc (suc n))))) h e = absurd (omega arith)
 
-    free-on : (a : ℕ) (r : Taken) → wide a ≡ false → STS a ≡ false → Step c a Poll r → phaseOf (r .collector .phase) ≡ Range
+    free-on : (a : ℕ) (r : Taken) → wide a ≡ false → STS a ≡ false → Step c (bus.Number a) Poll r → phaseOf (r .collector .phase) ≡ Range
     unfolding phaseOf
-    free-on a r w s (poll-wide e) = absurd (true≢false (sym e ∙ w))
+    free-on a r w s (poll-no-byte e) = absurd (true≢false (sym e ∙ w))
     free-on a r w s (poll-free e f) = refl
     free-on a r w s (poll-again e f g) = absurd (true≢false (sym f ∙ s))
     free-on a r w s (poll-last e f g) = absurd (true≢false (sym f ∙ s))
 
-    stopped-on : (r : Taken) → Step c 0 Stop r → phaseOf (r .collector .phase) ≡ Poll
+    stopped-on : (r : Taken) → Step c (bus.Number 0) Stop r → phaseOf (r .collector .phase) ≡ Poll
     unfolding phaseOf
     stopped-on r stopped = refl
 
@@ -167,10 +170,10 @@ module _ (M : Machine) (Working : M .Board → Type 0) (laws : Laws M Working) w
     stop-turn e = to-phase _ _ Poll (wrote Stop e 9 0 refl (laws .stops b wk .answers)) (stopped-on _ (st Stop e 0))
 
     -- the collector polls again, or is stuck
-    busy-on : (a : ℕ) (r : Taken) → wide a ≡ false → STS a ≡ true → Step c a Poll r
+    busy-on : (a : ℕ) (r : Taken) → wide a ≡ false → STS a ≡ true → Step c (bus.Number a) Poll r
         → Either (phaseOf (r .collector .phase) ≡ Poll) (phaseOf (r .collector .phase) ≡ Stuck)
     unfolding phaseOf
-    busy-on a r w s (poll-wide e) = absurd (true≢false (sym e ∙ w))
+    busy-on a r w s (poll-no-byte e) = absurd (true≢false (sym e ∙ w))
     busy-on a r w s (poll-free e f) = absurd (true≢false (sym s ∙ f))
     busy-on a r w s (poll-again e f g) = first refl
     busy-on a r w s (poll-last e f g) = second refl

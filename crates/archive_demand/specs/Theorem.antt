@@ -1,29 +1,35 @@
 -- Demand 3 holds of the collector on any board that obeys the laws. Assumes nothing.
-use Prim.Native.Nat.{ℕ, suc}
+use Prim.Native.Nat.{ℕ, suc, _≤_}
 use mathlib.Core.Bool.{true, false, true≢false}
 use mathlib.Core.List.{List, [], _∷_, _++_, IsPrefix}
 use mathlib.Core.Path.{_≡_, refl, sym, _∙_, ap, subst}
 use native.Mathlib.Omega.{arith}
 use lib.ListN.{length}
+use Rattle.collector_phases.specs.declared.Access.{Access}
 use Rattle.collector_phases.specs.declared.Access.the-variants.{WriteByte, ReadByte, ReadWord}
+use Rattle.base.specs.Laws.{never}
 use Rattle.collector_settings.specs.declared.Settings.{Settings}
+use Rattle.collector_phases.specs.declared.Collector.{Collector}
+use Rattle.collector_answers.specs.declared.BusAnswer.the-variants as bus
 use Rattle.samples.specs.declared.Sample.{Sample}
 use Rattle.collector_phases.specs.declared.Phase.{Phase}
 use Rattle.collector_phases.specs.declared.Phase.the-variants.{Stop, Poll, Range, Clear, Low, High, Go, Look, Take, Drain, Stuck, Unknown}
-use Rattle.collector_phases.specs.Phases.{phaseOf, accessIn}
-use Rattle.collector_phases.specs.Fit.{FitSettings}
+use Rattle.collector_phases.specs.Phases.{phaseOf, accessIn, isWordRead}
+use Rattle.collector_phases.specs.Fit.{FitIn, FitSettings}
 use Rattle.collector_phases.specs.Accesses.{accessOf}
 use Rattle.collector_records.specs.Records.{firstRecord}
 use Rattle.collector.specs.Steps.{access-fit}
 use Rattle.archive_turns.specs.Machine.{View, Machine}
+use Rattle.archive_turns.specs.Turn.{eventOf, broughtBy}
 use Rattle.archive_turns.specs.Hosts.{words}
 use Rattle.archive_demand.specs.Run.{Happening, turn, world, Run, System, given, gap, after}
-use Rattle.archive_demand.specs.Log.{Log, log}
+use Rattle.archive_demand.specs.Log.{Log, bringsBy, log}
 use Rattle.archive_demand.specs.Demand.{Demand3, Either, first, second, look, wordRead}
 use Rattle.archive_demand.specs.Laws.{Laws}
 use Rattle.archive_demand.specs.Chain.{Chain}
 use Rattle.archive_demand.specs.Phases.{Any, Idle, Running, Queue, Fact, FactOf}
 use Rattle.archive_demand.specs.Invariant.{Sound, sound, facts, s₀, sound₀, fact₀}
+use Rattle.archive_demand.specs.Sights.{first-of}
 use Rattle.archive_demand.specs.Told.{phase-told}
 use Rattle.archive_demand.specs.Looked.{yields-at, marks-at, again-at}
 use Rattle.archive_demand.specs.Starts.{Starting, quiet-turn, ready-at, polls-at, waits-at}
@@ -124,6 +130,33 @@ module _ (M : Machine) (Working : M .Board → Type 0) (laws : Laws M Working) (
   at-poll : (r : Run) → accessOf (at r .collector) ≡ ReadByte 8 → phaseOf (at r .collector .phase) ≡ Poll
   at-poll r e = phase-told (at r .collector) (ReadByte 8) (ok r .fit) e
 
+  -- a word read finds a sample: in a take one is held, in a drain as many as are left
+  some-held : (p : Phase) (c : Collector) (v : View) (l : Log) → FitIn p c → Fact p (c .settings) (c .next) (c .left) v l → accessIn p (c .settings) ≡ wordRead
+      → 1 ≤ length (v .held)
+  some-held Stop c v l i k e = never (ap isWordRead e)
+  some-held Poll c v l i k e = never (ap isWordRead e)
+  some-held Range c v l i k e = never (ap isWordRead e)
+  some-held Clear c v l i k e = never (ap isWordRead e)
+  some-held Low c v l i k e = never (ap isWordRead e)
+  some-held High c v l i k e = never (ap isWordRead e)
+  some-held Go c v l i k e = never (ap isWordRead e)
+  some-held Look c v l i k e = never (ap isWordRead e)
+  some-held Take c v l i k e = k .2
+  some-held Drain c v l i k e = omega (arith, i .0, k .2)
+  some-held Stuck c v l i k e = never (ap isWordRead e)
+  some-held Unknown c v l i k e = absurd i
+
+  sample-there : (r : Run) → accessOf (at r .collector) ≡ wordRead
+      → (word : ℕ) × (bringsBy M (at r .board) (eventOf (accessOf (at r .collector))) ≡ bus.Number word)
+  sample-there r e =
+      let c = at r .collector in
+      let h = first-of (M .view (at r .board) .held)
+      (some-held (phaseOf (c .phase)) c (M .view (at r .board)) (log M words s r) (ok r .fit .phase) (fact r) (sym (access-fit c (ok r .fit)) ∙ e)) in (
+        h .0,
+        ap (λ (x : Access). bringsBy M (at r .board) (eventOf x)) e
+            ∙ ap broughtBy (laws .words (at r .board) (ok r .works) .oldest (h .0) (h .1) (h .2)),
+      )
+
   pub demand3 : Demand3 M words (record { board = b; collector = firstRecord t })
   unfolding after phaseOf
   demand3 =
@@ -135,6 +168,7 @@ module _ (M : Machine) (Working : M .Board → Type 0) (laws : Laws M Working) (
         marks = λ r q e k. marks-at M Working laws t (at r) (ok r) (at-look r e) q k;
         again = λ r q e k. again-at M Working laws t (at r) (ok r) (at-look r e) q (omega (arith, k)) k;
         goes-on = in-run;
+        finds = sample-there;
         begins = access-fit (firstRecord t) (sound₀ M Working laws b wk t f .fit);
         polls = λ r e. polls-at M Working laws t (at r) (ok r) (phase-told (at r .collector) (WriteByte 9 0) (ok r .fit) e);
         waits = λ r e k. waits-at M Working laws t (at r) (ok r) (at-poll r e) k;

@@ -11,6 +11,7 @@ use Rattle.converter.specs.Codes.{sampleOf}
 use Rattle.collector_phases.specs.declared.Access.{Access}
 use Rattle.collector_settings.specs.declared.Settings.{Settings}
 use Rattle.samples.specs.declared.Sample.{Sample}
+use Rattle.collector_answers.specs.declared.BusAnswer.{BusAnswer}
 use Rattle.collector_answers.specs.Answers.{sampleAt}
 use Rattle.collector.specs.Handed.{isGo}
 use Rattle.archive_turns.specs.Machine.{View}
@@ -36,7 +37,7 @@ rewaiting l w =
       within = l .within;
     }
 
-pub still : (x : Access) (a ch : ℕ) (l : Log) → isGo x ≡ false → noteTurn x a false ch [] false l ≡ rewaiting l (stretch x a (l .waiting))
+pub still : (x : Access) (a : BusAnswer) (ch : ℕ) (l : Log) → isGo x ≡ false → noteTurn x a false ch [] false l ≡ rewaiting l (stretch x a (l .waiting))
 still x a ch l g = rw (g, append-nil (l .handed), append-nil (l .sinceGap))
 
 module _ (l : Log) (w : Option ℕ) where
@@ -55,9 +56,9 @@ module _ (l : Log) (w : Option ℕ) where
 
 -- ---- a look that shows some samples, and one that shows the memory full
 module _ (t : Settings) (next : ℕ) (v : View) (l : Log) where
-  pub look-some : 1 ≤ length (v .held) → length (v .held) < 512 → Looking t next v l → Taking t next v (rewaiting l (some 0))
-  look-some a b k =
-      record { Q = k .Q; n = 0; inner = go (k .loss); holds = k .holds; some-held = a; waits = refl; few = omega arith }
+  pub look-some : length (v .held) < 512 → Looking t next v l → Taking t next v (rewaiting l (some 0))
+  look-some b k =
+      record { Q = k .Q; n = 0; inner = go (k .loss); holds = k .holds; waits = refl; few = omega arith }
     where
       go : Loss (k .L) (v .held) → Queue t next v (rewaiting l (some 0)) (k .Q) []
       go (no-loss e) = rw e at (queue-relog t next v l (rewaiting l (some 0)) (k .Q) (k .L) refl refl refl (k .inner))

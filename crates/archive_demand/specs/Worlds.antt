@@ -1,10 +1,14 @@
 -- An event of the world keeps what holds in each phase. Assumes nothing.
-use Prim.Native.Nat.{ℕ}
+use Prim.Native.Nat.{ℕ, _≤_}
 use mathlib.Core.Bool.{Bool, true, false, _&&_, true≢false}
-use mathlib.Core.List.{List, [], _∷_, _++_, IsPrefix, append-assoc}
+use mathlib.Core.List.{List, [], _∷_, _++_, IsPrefix, append-assoc, append-nil}
 use mathlib.Core.Option.{Option, none, some}
 use mathlib.Core.Path.{_≡_, refl, sym, _∙_, ap}
+use native.Mathlib.Omega.{arith}
 use lib.IntN.{ℤ}
+use lib.Dec.{ltb}
+use lib.ListN.{length, length-append}
+use Rattle.fifo.specs.Samples.{pushed}
 use Rattle.base.specs.Flags.{on}
 use Rattle.base.specs.Choice.{if_then_else_}
 use Rattle.base.specs.Laws.{both}
@@ -52,6 +56,20 @@ clken-kept : (begins : Bool) (e : Option ℤ) (v v′ : View) → Happens begins
 clken-kept begins e v v′ (quiet a b c) = ap (λ (u : View). on (u .converter .clken)) c
 clken-kept begins e v v′ (trigger a b c d f) = ap (λ (u : View). on (u .converter .clken)) f
 clken-kept begins e v v′ (end code k a b c d) = ap (λ (u : View). on (u .converter .clken)) d ∙ ended-clken (endStarts (v .converter)) v
+
+-- events of the world only put samples behind those held
+pub grows : (begins : Bool) (e : Option ℤ) (v v′ : View) → Happens begins e v v′ → (Y : List ℕ) × (v′ .held ≡ v .held ++ Y)
+unfolding pushed
+grows begins e v v′ (quiet a b c) = ([], ap (λ (u : View). u .held) c ∙ sym (append-nil (v .held)))
+grows begins e v v′ (trigger a b c d f) = ([], ap (λ (u : View). u .held) f ∙ sym (append-nil (v .held)))
+grows begins e v v′ (end code s a b c d) = by (ltb (length (v .held)) 512) refl
+  where
+    by : (z : Bool) → ltb (length (v .held)) 512 ≡ z → (Y : List ℕ) × (v′ .held ≡ v .held ++ Y)
+    by true h = (sampleOf code ∷ [], ap (λ (u : View). u .held) d ∙ rw h)
+    by false h = ([], ap (λ (u : View). u .held) d ∙ rw (h, append-nil))
+
+pub no-fewer : (begins : Bool) (e : Option ℤ) (v v′ : View) → Happens begins e v v′ → length (v .held) ≤ length (v′ .held)
+no-fewer begins e v v′ h = let y = grows begins e v v′ h in rw (y .1, length-append) (omega arith)
 
 -- a quiet event leaves the log, but that `within` is tested again
 pub requieted : Log → Log
@@ -109,7 +127,6 @@ module _ (t : Settings) (next left : ℕ) (f : FitSettings t) (v : View) (l : Lo
         n = k .n;
         inner = queue-relog t next v l (requieted l) (k .Q) [] refl refl refl (k .inner);
         holds = k .holds;
-        some-held = k .some-held;
         waits = k .waits;
         few = k .few;
       })
@@ -118,7 +135,6 @@ module _ (t : Settings) (next left : ℕ) (f : FitSettings t) (v : View) (l : Lo
         n = k .n;
         inner = queue-begin t next v l (k .Q) [] f b (k .inner);
         holds = k .holds;
-        some-held = k .some-held;
         waits = k .waits;
         few = k .few;
       })
@@ -165,7 +181,7 @@ module _ (t : Settings) (next left : ℕ) (f : FitSettings t) (v : View) (l : Lo
   world-kept High k = quieted (λ u m. Fact High t next left u m) (k .0 .off) (k .0 .still) (quiet-log (k .0), k .1, k .2, k .3)
   world-kept Go k = quieted (λ u m. Fact Go t next left u m) (k .0 .off) (k .0 .still) (quiet-log (k .0), k .1, k .2, k .3, k .4, k .5)
   world-kept Look k = (running-world t next e begins ch l (k .0), λ w. looking (k .1 (was-within w)) w)
-  world-kept Take k = (running-world t next e begins ch l (k .0), λ w. taking (k .1 (was-within w)) w)
-  world-kept Drain k = (running-world t next e begins ch l (k .0), λ w. draining (k .1 (was-within w)) w)
+  world-kept Take k = (running-world t next e begins ch l (k .0), λ w. taking (k .1 (was-within w)) w, omega (arith, k .2, no-fewer begins e v v′ h))
+  world-kept Drain k = (running-world t next e begins ch l (k .0), λ w. draining (k .1 (was-within w)) w, omega (arith, k .2, no-fewer begins e v v′ h))
   world-kept Stuck k = idle-world e begins ch l k
   world-kept Unknown k = absurd k

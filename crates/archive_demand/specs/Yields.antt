@@ -6,10 +6,9 @@ use mathlib.Core.Path.{_≡_, refl, sym, _∙_, ap, subst}
 use native.Mathlib.Omega.{arith}
 use borrow.Author.Tests.{leb-true, leb-false}
 use lib.IntN.{ℤ}
-use lib.Dec.{ltb}
 use lib.ListN.{length, length-append}
 use Rattle.base.specs.Choice.{if_then_else_}
-use Rattle.fifo.specs.Samples.{pushed}
+use Rattle.base.specs.Laws.{never}
 use Rattle.converter.specs.Codes.{codeOf}
 use Rattle.board_events.specs.declared.Event.the-variants as event
 use Rattle.collector_phases.specs.declared.Access.the-variants.{ReadWord}
@@ -21,17 +20,20 @@ use Rattle.collector_phases.specs.declared.Phase.{Phase}
 use Rattle.collector_phases.specs.declared.Phase.the-variants.{Stop, Look, Take, Drain}
 use Rattle.collector_phases.specs.Phases.{phaseOf, accessIn}
 use Rattle.collector_phases.specs.Fit.{FitCollector}
+use Rattle.collector_answers.specs.declared.BusAnswer.the-variants as bus
+use Rattle.collector_answers.specs.Answers.{isNothing}
 use Rattle.collector_replies.specs.Reply.{replied}
 use Rattle.collector.specs.Handed.{samplesOf, gapMarked}
-use Rattle.collector.specs.Steps.{Step, step, access-fit}
-use Rattle.collector.specs.Steps.{taken, drained, closed}
+use Rattle.collector.specs.Steps.{Step, step, access-fit, same-word}
+use Rattle.collector.specs.Steps.{taken, take-nothing, drained, closed, drain-nothing}
 use Rattle.archive_turns.specs.Machine.{View, Machine}
-use Rattle.archive_turns.specs.Turn.{eventOf, turnBy}
+use Rattle.archive_turns.specs.Turn.{eventOf, takenBy, turnBy}
 use Rattle.archive_turns.specs.Hosts.{words}
 use Rattle.archive_demand.specs.World.{World, eventIn}
 use Rattle.archive_demand.specs.Run.{turn, world, Run, begin, _▸_, System, turning, next, given, gap, after, givenIn, gapsIn, turns}
 use Rattle.archive_demand.specs.Demand.{codesOf, codesIn}
-use Rattle.archive_demand.specs.Laws.{Laws, Happens, quiet, trigger, end, Fetches}
+use Rattle.archive_demand.specs.Laws.{Laws, Fetches}
+use Rattle.archive_demand.specs.Worlds.{grows}
 use Rattle.archive_demand.specs.Invariant.{Sound, sound}
 
 codes-append : (a b : List Sample) → codesOf (a ++ b) ≡ codesOf a ++ codesOf b
@@ -41,20 +43,6 @@ codes-append (y ∷ ys) b = ap {B = List ℤ} (λ r. y .code ∷ r) (codes-appen
 in-append : (a b : List ℕ) → codesIn (a ++ b) ≡ codesIn a ++ codesIn b
 in-append [] b = refl
 in-append (n ∷ a) b = ap {B = List ℤ} (λ r. codeOf n ∷ r) (in-append a b)
-
--- events of the world only put samples behind those held
-pub grows : (begins : Bool) (e : mathlib.Core.Option.Option ℤ) (v v′ : View) → Happens begins e v v′ → (Y : List ℕ) × (v′ .held ≡ v .held ++ Y)
-unfolding pushed
-grows begins e v v′ (quiet a b c) = ([], ap (λ (u : View). u .held) c ∙ sym (append-nil (v .held)))
-grows begins e v v′ (trigger a b c d f) = ([], ap (λ (u : View). u .held) f ∙ sym (append-nil (v .held)))
-grows begins e v v′ (end code s a b c d) = by (ltb (length (v .held)) 512) refl
-  where
-    w : ℕ
-    w = Rattle.converter.specs.Codes.sampleOf code
-
-    by : (z : Bool) → ltb (length (v .held)) 512 ≡ z → (Y : List ℕ) × (v′ .held ≡ v .held ++ Y)
-    by true h = (Rattle.converter.specs.Codes.sampleOf code ∷ [], ap (λ (u : View). u .held) d ∙ rw h)
-    by false h = ([], ap (λ (u : View). u .held) d ∙ rw (h, append-nil))
 
 -- the collector while rest is still to be read: after a look that showed the memory full, or not
 abbrev pub Stage : Bool → List ℕ → Collector → Type 0
@@ -119,13 +107,11 @@ module _ (M : Machine) (Working : M .Board → Type 0) (laws : Laws M Working) w
     counted : suc k ≡ length (done ++ (d ∷ []))
     counted = rw length-append (omega arith)
 
-    says : (y : Sample) → y .code ≡ codeOf (F .word) → codesOf (out ++ (y ∷ [])) ≡ codesIn (done ++ (d ∷ []))
-    says y e =
-        rw (codes-append, in-append, said)
-        (ap (λ (z : ℤ). codesIn done ++ (z ∷ [])) (e ∙ ap codeOf (F .oldest d (rest ++ X) holds)))
+    says : (y : Sample) → y .code ≡ codeOf d → codesOf (out ++ (y ∷ [])) ≡ codesIn (done ++ (d ∷ []))
+    says y e = rw (codes-append, in-append, said) (ap (λ (z : ℤ). codesIn done ++ (z ∷ [])) e)
 
     -- the sample y has come, and what it leaves owes the rest
-    one-done : (full : Bool) (r : Taken) (y : Sample) → samplesOf (r .handed) ≡ y ∷ [] → y .code ≡ codeOf (F .word) → Stage full rest (r .collector)
+    one-done : (full : Bool) (r : Taken) (y : Sample) → samplesOf (r .handed) ≡ y ∷ [] → y .code ≡ codeOf d → Stage full rest (r .collector)
         → g + (if gapMarked (r .handed) then 1 else 0) ≡ marked full rest → Done full r
     one-done full r y h e s m =
         record {
@@ -140,13 +126,19 @@ module _ (M : Machine) (Working : M .Board → Type 0) (laws : Laws M Working) w
           mark = m;
         }
 
-    take-done : (r : Taken) → rest ≡ [] → Step c (F .word) Take r → Done false r
-    unfolding phaseOf
-    take-done r z taken = one-done false r _ refl refl (rw z) (rw z (omega arith))
+    -- it has come as the word that is d
+    coded : (word : ℕ) → bus.Number d ≡ bus.Number word → codeOf word ≡ codeOf d
+    coded word i = ap codeOf (sym (same-word d word i))
 
-    drain-done : (r : Taken) → c .left ≡ suc (length rest) → Step c (F .word) Drain r → Done true r
+    take-done : (r : Taken) → rest ≡ [] → Step c (bus.Number d) Take r → Done false r
     unfolding phaseOf
-    drain-done r z (drained e) = one-done true r _ refl refl (more rest refl) (unmarked rest refl)
+    take-done r z (taken word i) = one-done false r _ refl (coded word i) (rw z) (rw z (omega arith))
+    take-done r z (take-nothing i) = never (ap isNothing i)
+
+    drain-done : (r : Taken) → c .left ≡ suc (length rest) → Step c (bus.Number d) Drain r → Done true r
+    unfolding phaseOf
+    drain-done r z (drain-nothing i) = never (ap isNothing i)
+    drain-done r z (drained word i e) = one-done true r _ refl (coded word i) (more rest refl) (unmarked rest refl)
       where
         h : 1 < c .left
         h = leb-false (c .left) 1 e
@@ -158,7 +150,7 @@ module _ (M : Machine) (Working : M .Board → Type 0) (laws : Laws M Working) w
         unmarked : (u : List ℕ) → rest ≡ u → g + 0 ≡ marked true rest
         unmarked [] p = absurd (let y : length rest ≡ 0 = ap length p in omega (arith, h))
         unmarked (n ∷ u) p = rw p (omega arith)
-    drain-done r z (closed e) = one-done true r _ refl refl (last rest refl) (marks rest refl)
+    drain-done r z (closed word i e) = one-done true r _ refl (coded word i) (last rest refl) (marks rest refl)
       where
         h : c .left ≤ 1
         h = leb-true (c .left) 1 e
@@ -177,20 +169,14 @@ module _ (M : Machine) (Working : M .Board → Type 0) (laws : Laws M Working) w
       → turning M words x ≡ turnBy M words (eventOf (accessIn (phaseOf (x .collector .phase)) (x .collector .settings))) (x .collector) (x .board)
   turn-of x f = rw (access-fit (x .collector) f)
 
-  -- a word read by a fit collector in phase p
-  word-turn : (x : System M) (p : Phase) → FitCollector (x .collector) → (wk : Working (x .board)) → phaseOf (x .collector .phase) ≡ p
-      → accessIn p (x .collector .settings) ≡ ReadWord 0
-      → turning M words x
-      ≡ record {
-        collector = replied (x .collector) (laws .words (x .board) wk .word) .collector;
-        board = M .stepped (x .board) (event.ReadWord 0);
-        polls = replied (x .collector) (laws .words (x .board) wk .word) .polls;
-        handed = replied (x .collector) (laws .words (x .board) wk .word) .handed;
-      }
-  word-turn x p f wk e a = turn-of x f ∙ rw (e, a, laws .words (x .board) wk .answers)
+  -- a word read by a fit collector in phase p, d being the oldest sample held
+  word-turn : (x : System M) (p : Phase) (d : ℕ) (rest : List ℕ) → FitCollector (x .collector) → Working (x .board) → phaseOf (x .collector .phase) ≡ p
+      → accessIn p (x .collector .settings) ≡ ReadWord 0 → M .view (x .board) .held ≡ d ∷ rest
+      → turning M words x ≡ takenBy (replied (x .collector) (bus.Number d)) (M .stepped (x .board) (event.ReadWord 0))
+  word-turn x p d rest f wk e a h = turn-of x f ∙ rw (e, a, laws .words (x .board) wk .oldest d rest h)
 
-  pub step-in : (c : Collector) (a : ℕ) (p : Phase) → FitCollector c → phaseOf (c .phase) ≡ p → Step c a p (replied c a)
-  step-in c a p f e = subst (λ (q : Phase). Step c a q (replied c a)) e (step c a f)
+  pub step-in : (c : Collector) (a : ℕ) (p : Phase) → FitCollector c → phaseOf (c .phase) ≡ p → Step c (bus.Number a) p (replied c (bus.Number a))
+  step-in c a p f e = subst (λ (q : Phase). Step c (bus.Number a) q (replied c (bus.Number a))) e (step c (bus.Number a) refl f)
 
   owing-turn : (full : Bool) (D : List ℕ) (x : System M) (out : List Sample) (g k : ℕ) → FitCollector (x .collector) → Working (x .board)
       → Owing full D x out g k → suc k ≤ length D
@@ -203,13 +189,13 @@ module _ (M : Machine) (Working : M .Board → Type 0) (laws : Laws M Working) w
       by full [] c p s m =
           absurd (let y : length D ≡ length (o .done) = ap length c ∙ ap length (append-nil (o .done)) in omega (arith, o .count))
       by false (d ∷ rest) c p s m =
-          rw (word-turn x Take fc wk (s .0) refl)
+          rw (word-turn x Take d (rest ++ o .X) fc wk (s .0) refl p)
           (take-done (x .board) wk (x .collector) fc D (o .done) d rest (o .X) out g k c p (o .said) (o .count) m _ (s .1)
-          (step-in (x .collector) _ Take fc (s .0)))
+          (step-in (x .collector) d Take fc (s .0)))
       by true (d ∷ rest) c p s m =
-          rw (word-turn x Drain fc wk (s .0) refl)
+          rw (word-turn x Drain d (rest ++ o .X) fc wk (s .0) refl p)
           (drain-done (x .board) wk (x .collector) fc D (o .done) d rest (o .X) out g k c p (o .said) (o .count) m _ (s .1)
-          (step-in (x .collector) _ Drain fc (s .0)))
+          (step-in (x .collector) d Drain fc (s .0)))
 
   pub owing : (t : Settings) (full : Bool) (D : List ℕ) (y : System M) → Sound M Working laws t y → Owing full D y [] 0 0 → (q : Run) → turns q ≤ length D
       → Owing full D (after M words y q) (givenIn M words y q) (gapsIn M words y q) (turns q)

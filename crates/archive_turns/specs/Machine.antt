@@ -8,6 +8,7 @@ use lib.IntN.{ℤ}
 use Rattle.converter.specs.declared.channels.Converter.{Converter}
 use Rattle.board_events.specs.declared.Answer.{Answer}
 use Rattle.board_events.specs.declared.Event.{Event}
+use Rattle.collector_answers.specs.declared.BusAnswer.{BusAnswer}
 use Rattle.collector_phases.specs.declared.Access.{Access}
 use Rattle.collector_phases.specs.declared.Collector.{Collector}
 use Rattle.collector_steps.specs.declared.Taken.{Taken}
@@ -32,5 +33,5 @@ pub record Machine : Type 1 where
 pub record Host : Type 0 where
   -- the access that it makes now
   pub access : Collector → Access
-  -- what it does with the number that the bus brought
-  pub reply : Collector → ℕ → Taken
+  -- what it does with what the access brought: a number, nothing, or a refusal of the board
+  pub reply : Collector → BusAnswer → Taken

@@ -2,7 +2,7 @@
 -- specification, "The collector").
 use Prim.Native.Nat.{ℕ}
 use Rattle.board_events.specs.declared.Answer.{Answer}
-use Rattle.board_events.specs.declared.Answer.the-variants.{Done, Byte, Word, Refused}
+use Rattle.board_events.specs.declared.Answer.the-variants.{Done, Byte, Word, Nothing, Refused}
 use Rattle.board_events.specs.declared.Event.{Event}
 use Rattle.board_events.specs.declared.Event.the-variants as event
 use Rattle.collector_phases.specs.declared.Access.{Access}
@@ -24,11 +24,13 @@ eventOf (ReadByte offset) = Made (event.ReadByte offset)
 eventOf (ReadWord offset) = Made (event.ReadWord offset)
 eventOf (NoAccess number) = NotMade number
 
--- what the board's answer is to the collector; the answer to a write isn't looked at, and 0 stands for it
+-- what the board's answer is to the collector: a number, nothing where a word read found none, or a refusal; the answer to a write isn't looked at, and 0
+-- stands for it
 abbrev pub broughtBy : Answer → BusAnswer
 broughtBy Done = bus.Number 0
 broughtBy (Byte byte) = bus.Number byte
 broughtBy (Word word) = bus.Number word
+broughtBy Nothing = bus.Nothing
 broughtBy (Refused number) = bus.Refused number
 
 -- after a turn: the collector, the board, the polls reported, and what is handed over
@@ -38,7 +40,7 @@ pub record Turning (B : Type 0) : Type 0 where
   pub polls : ℕ
   pub handed : Handed
 
--- nothing was brought: the collector stays, and the number says why
+-- no access is named: the collector stays, and the number says why
 abbrev pub unturned : {B : Type 0} → Collector → B → ℕ → Turning B
 unturned c b number = record { collector = c; board = b; polls = c .polls; handed = handed.Refused number }
 
@@ -46,13 +48,8 @@ unturned c b number = record { collector = c; board = b; polls = c .polls; hande
 abbrev pub takenBy : {B : Type 0} → Taken → B → Turning B
 takenBy taken b = record { collector = taken .collector; board = b; polls = taken .polls; handed = taken .handed }
 
--- a refusal is no number that the bus brought
-abbrev pub broughtTo : {B : Type 0} → Host → Collector → B → BusAnswer → Turning B
-broughtTo H c b (bus.Number a) = takenBy (H .reply c a) b
-broughtTo H c b (bus.Refused number) = unturned c b number
-
 abbrev pub turnBy : (M : Machine) (H : Host) → Asked → Collector → M .Board → Turning (M .Board)
-turnBy M H (Made ev) c b = broughtTo H c (M .stepped b ev) (broughtBy (M .answered b ev))
+turnBy M H (Made ev) c b = takenBy (H .reply c (broughtBy (M .answered b ev))) (M .stepped b ev)
 turnBy M H (NotMade number) c b = unturned c b number
 
 abbrev pub turnOf : (M : Machine) (H : Host) → Collector → M .Board → Turning (M .Board)

@@ -1,7 +1,7 @@
 // One turn of the collector on the bus of a board (the specification, "The collector"; "a collector driving it through bus accesses"): the
 // access that the collector names is made as an event of the board, and the board's answer is handed to the collector.
 ghost use mathlib.Core.Path.{_≡_};
-ghost use Rattle.archive_turns.specs.Turn.{eventOf, broughtBy, unturned, takenBy, broughtTo};
+ghost use Rattle.archive_turns.specs.Turn.{eventOf, broughtBy, unturned, takenBy};
 ghost use Rattle.archive_turns.specs.Real.{asStruct, Left, lentTurn};
 ghost use Rattle.archive_turns.specs.Hosts.{words};
 use board::Answer;
@@ -45,7 +45,7 @@ pub fn event_of(access: Access) -> Asked
     }
 }
 
-// What the board's answer is to the collector. The answer to a write isn't looked at: 0 stands for it.
+// What the board's answer is to the collector: a number, nothing or a refusal. The answer to a write isn't looked at: 0 stands for it.
 pub fn bus_answer(answer: Answer) -> BusAnswer
     ensures { λ r. ⌜ r ≡ broughtBy answer ⌝ }
 {
@@ -53,12 +53,13 @@ pub fn bus_answer(answer: Answer) -> BusAnswer
         Answer::Done => BusAnswer::Number(0),
         Answer::Byte(byte) => BusAnswer::Number(byte as u16),
         Answer::Word(word) => BusAnswer::Number(word),
+        Answer::Nothing => BusAnswer::Nothing,
         Answer::Refused(number) => BusAnswer::Refused(number),
     }
 }
 
-// Nothing was brought: the collector stays, and the number says why.
-fn without_answer(collector: Collector, board: Board, number: u8) -> Turned
+// No access is named: the collector stays, and the number says why.
+fn without_access(collector: Collector, board: Board, number: u8) -> Turned
     ensures { λ r. ⌜ r ≡ asStruct (unturned collector board number) ⌝ }
 {
     Turned {
@@ -69,11 +70,11 @@ fn without_answer(collector: Collector, board: Board, number: u8) -> Turned
     }
 }
 
-// The collector takes the number that was brought.
-fn with_answer(collector: Collector, board: Board, number: u16) -> Turned
-    ensures { λ r. ⌜ r ≡ asStruct (takenBy (words .reply collector number) board) ⌝ }
+// The collector takes what the access brought.
+fn hand_over(collector: Collector, board: Board, answer: Answer) -> Turned
+    ensures { λ r. ⌜ r ≡ asStruct (takenBy (words .reply collector (broughtBy answer)) board) ⌝ }
 {
-    let taken = collector::take_answer(collector, BusAnswer::Number(number));
+    let taken = collector::take_answer(collector, bus_answer(answer));
     let after = taken.collector;
     let handed = taken.handed;
     Turned {
@@ -81,15 +82,6 @@ fn with_answer(collector: Collector, board: Board, number: u16) -> Turned
         board,
         polls: taken.polls,
         handed,
-    }
-}
-
-fn hand_over(collector: Collector, board: Board, answer: Answer) -> Turned
-    ensures { λ r. ⌜ r ≡ asStruct (broughtTo words collector board (broughtBy answer)) ⌝ }
-{
-    match bus_answer(answer) {
-        BusAnswer::Number(number) => with_answer(collector, board, number),
-        BusAnswer::Refused(number) => without_answer(collector, board, number),
     }
 }
 
@@ -105,6 +97,6 @@ pub fn turn(collector: Collector, board: Board, memory: &mut [u16], eeprom: &mut
             let answer = outcome.answer;
             hand_over(collector, after, answer)
         }
-        Asked::NotMade(number) => without_answer(collector, board, number),
+        Asked::NotMade(number) => without_access(collector, board, number),
     }
 }

@@ -18,9 +18,11 @@ pub enum Event {
     TransferEnd,
 }
 
+// In the order of the kinds that C hosts are told (numbers_answers). Nothing: a word was read, and no sample was there.
 pub enum Answer {
     Done,
     Byte(u8),
     Word(u16),
     Refused(u8),
+    Nothing,
 }

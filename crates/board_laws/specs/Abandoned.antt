@@ -25,16 +25,17 @@ use Rattle.board_refusal.specs.Working.{WorkingBoard}
 use Rattle.board_step.specs.Step.{ran, ranFrom}
 use Rattle.board_laws.specs.Begins.{begins, beginsOn, ends, keeps, resets, abandons}
 use Rattle.base.specs.Laws.{never, both}
+use Rattle.fifo.specs.declared.OldestSample.{OldestSample}
 use Rattle.board_laws.specs.Conversions.{free, write-begun, begun, over, stays-same, counter0-same, out2Trigger, clocked1, dinTrigger}
 use Rattle.board_events.specs.declared.Event.{Event}
 use Rattle.board_events.specs.declared.Event.the-variants.{WriteByte, ReadByte, ReadWord, ConversionEnd, DinPins, LatchLevel, PortPins, Tick, TransferEnd}
 
 -- whether a conversion is in progress after an event that is not refused
-abbrev pub runsAfter : Board → ℕ → List ℕ → Event → Bool
+abbrev pub runsAfter : Board → OldestSample → List ℕ → Event → Bool
 runsAfter b o e ev = on (acted b o e ev .board .converter .converting)
 
 -- ---- a reset leaves the converter as a fresh board's: no conversion is in progress
-pub reset-fresh : (b : Board) (o : ℕ) (e : List ℕ) (ev : Event) → resets ev ≡ true → acted b o e ev .board .converter ≡ freshConverter
+pub reset-fresh : (b : Board) (o : OldestSample) (e : List ℕ) (ev : Event) → resets ev ≡ true → acted b o e ev .board .converter ≡ freshConverter
 unfolding acted resets writtenAt miscWritten boardReset placeOf
 reset-fresh b o e (WriteByte n v) h =
     let k = both (eqb n 8) (isReset v) h in
@@ -49,7 +50,7 @@ reset-fresh b o e (PortPins q v) h = never h
 reset-fresh b o e Tick h = never h
 reset-fresh b o e TransferEnd h = never h
 
-module _ (b : Board) (o : ℕ) (e : List ℕ) (ev : Event) where
+module _ (b : Board) (o : OldestSample) (e : List ℕ) (ev : Event) where
   runs : {c : Converter} → acted b o e ev .board .converter ≡ c → runsAfter b o e ev ≡ on (c .converting)
   runs h = ap (λ (c : Converter). on (c .converting)) h
 
@@ -66,7 +67,7 @@ module _ (b : Board) (o : ℕ) (e : List ℕ) (ev : Event) where
   in-progress = progress (begins b ev) (ends ev) (resets ev) refl refl refl
 
 -- it begins on the selected channel
-pub begins-on : (b : Board) (o : ℕ) (e : List ℕ) (ev : Event) → begins b ev ≡ true → acted b o e ev .board .converter .channel ≡ beginsOn b
+pub begins-on : (b : Board) (o : OldestSample) (e : List ℕ) (ev : Event) → begins b ev ≡ true → acted b o e ev .board .converter .channel ≡ beginsOn b
 begins-on b o e ev h = ap (λ (c : Converter). c .channel) (begun b o e ev h)
 
 -- ---- an event that is no end begins a conversion only where none is in progress
@@ -98,7 +99,8 @@ end-stays Tick h = refl
 end-stays TransferEnd h = refl
 
 -- ---- an event abandons a conversion exactly where one was in progress, the event is no end, and none is in progress after it
-pub abandoned : (b : Board) (o : ℕ) (e : List ℕ) (ev : Event) → abandons b ev ≡ on (b .converter .converting) && not (ends ev) && not (runsAfter b o e ev)
+pub abandoned : (b : Board) (o : OldestSample) (e : List ℕ) (ev : Event)
+    → abandons b ev ≡ on (b .converter .converting) && not (ends ev) && not (runsAfter b o e ev)
 abandoned b o e ev = by (on (b .converter .converting)) (ends ev) (begins b ev) (resets ev) refl refl refl refl
   where
     by : (c t s u : Bool) → on (b .converter .converting) ≡ c → ends ev ≡ t → begins b ev ≡ s → resets ev ≡ u

@@ -1,4 +1,4 @@
--- The answer of a step in the specification's numbers: the number that it is refused by, and the value that comes back.
+-- The answer of a step in the specification's numbers: the number that it is refused by, and the value that a guest is shown.
 use Prim.Native.Nat.{ℕ}
 use mathlib.Core.Path.{_≡_, refl, sym, _∙_}
 use mathlib.Core.Bool.{Bool, true, false}
@@ -8,20 +8,23 @@ use lib.Dec.{eqb}
 use Rattle.base.specs.Choice.{if_then_else_}
 use Rattle.fifo.specs.Samples.{oldestOf}
 use Rattle.fifo.specs.Queue.{queue}
+use Rattle.fifo.specs.declared.OldestSample.{OldestSample}
+use Rattle.fifo.specs.declared.OldestSample.the-variants.{NoneHeld, Sample}
 use Rattle.machine_record.specs.declared.Board.{Board}
 use Rattle.bus.specs.Place.{placeOf}
 use Rattle.bus.specs.Registers.{byteAt}
+use Rattle.board_step.specs.Acted.{wordReadAnswer}
 use Rattle.board_step.specs.Act.{acted}
 use Rattle.board_step.specs.Step.{ran, ranFrom, refusalOf, refusedBy, stepOf}
 use Rattle.board_events.specs.Answers.{refusalNumber, valueRead}
 use Rattle.board_events.specs.declared.Event.{Event}
 use Rattle.board_events.specs.declared.Event.the-variants.{WriteByte, ReadByte, ReadWord, ConversionEnd, DinPins, LatchLevel, PortPins, Tick, TransferEnd}
 
--- what an event that is not refused brings, the samples held being these: a read the byte of its place, a word read the oldest sample
+-- what an event that is not refused shows, the samples held being these: a read the byte of its place, a word read the oldest sample, FFFF where none is held
 unfoldable pub valueBrought : Board → List ℕ → Event → ℕ
 valueBrought b samples (WriteByte offset value) = 0
 valueBrought b samples (ReadByte offset) = byteAt b (oldestOf samples) (placeOf (b .registers .page) offset)
-valueBrought b samples (ReadWord offset) = oldestOf samples
+valueBrought b samples (ReadWord offset) = valueRead (wordReadAnswer (oldestOf samples))
 valueBrought b samples (ConversionEnd code) = 0
 valueBrought b samples (DinPins d) = 0
 valueBrought b samples (LatchLevel level) = 0
@@ -29,13 +32,17 @@ valueBrought b samples (PortPins q v) = 0
 valueBrought b samples Tick = 0
 valueBrought b samples TransferEnd = 0
 
+word-taken : (o : OldestSample) → refusalNumber (wordReadAnswer o) ≡ 0
+word-taken NoneHeld = refl
+word-taken (Sample sample) = refl
+
 -- it is answered by no refusal
 acted-answer : (b : Board) (samples e : List ℕ) (ev : Event)
     → (refusalNumber (acted b (oldestOf samples) e ev .answer) ≡ 0) × (valueRead (acted b (oldestOf samples) e ev .answer) ≡ valueBrought b samples ev)
 unfolding acted valueBrought
 acted-answer b samples e (WriteByte n v) = (refl, refl)
 acted-answer b samples e (ReadByte n) = (refl, refl)
-acted-answer b samples e (ReadWord n) = (refl, refl)
+acted-answer b samples e (ReadWord n) = (word-taken (oldestOf samples), refl)
 acted-answer b samples e (ConversionEnd code) = (refl, refl)
 acted-answer b samples e (DinPins d) = (refl, refl)
 acted-answer b samples e (LatchLevel level) = (refl, refl)

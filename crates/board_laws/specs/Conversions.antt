@@ -17,6 +17,7 @@ use Rattle.timer.specs.declared.Gates.{Gates}
 use Rattle.timer.specs.declared.Select.the-variants.{Counter0, Counter1, Counter2}
 use Rattle.timer.specs.declared.accesses.Written.{Written}
 use Rattle.timer.specs.declared.accesses.Written.the-variants.{Accepted, Refused}
+use Rattle.fifo.specs.declared.OldestSample.{OldestSample}
 use Rattle.machine_clock.specs.Clock.{gates, timerMoved, timerMovedBy, countingWritten}
 use Rattle.machine_tick.specs.InPlace.{no-edge}
 use Rattle.machine_tick.specs.Tick.{clock1, dividersTicked, counter0Ticked, counter1Ticked, outputsTicked, ticked}
@@ -135,7 +136,7 @@ tick-lost b h =
 abbrev pub dinTrigger : Board → ℕ → Bool
 dinTrigger b n = externalTrigger (b .converter) (on (b .requests .clksel)) (fellFrom (b .pins .din) n 3) (triggersStopped (dinMoved b n))
 
-pub begun : (b : Board) (o : ℕ) (e : List ℕ) (ev : Event) → begins b ev ≡ true → acted b o e ev .board .converter ≡ started (b .converter)
+pub begun : (b : Board) (o : OldestSample) (e : List ℕ) (ev : Event) → begins b ev ≡ true → acted b o e ev .board .converter ≡ started (b .converter)
 unfolding acted begins
 begun b o e (WriteByte n v) h = write-begun b (placeOf (b .registers .page) n) v h .starts
 begun b o e (ReadByte n) h = never h
@@ -148,7 +149,7 @@ begun b o e Tick h = tick-begun b h
 begun b o e TransferEnd h = never h
 
 -- ---- an end that begins none leaves none in progress
-pub over : (b : Board) (o : ℕ) (e : List ℕ) (ev : Event) → begins b ev ≡ false → ends ev ≡ true
+pub over : (b : Board) (o : OldestSample) (e : List ℕ) (ev : Event) → begins b ev ≡ false → ends ev ≡ true
     → acted b o e ev .board .converter ≡ idle (b .converter)
 unfolding acted begins ends
 over b o e (WriteByte n v) h k = never k
@@ -208,7 +209,7 @@ write-same b CalBase14 v h k = alike (b .converter)
 write-same b CalBase15 v h k = alike (b .converter)
 write-same b Outside v h k = alike (b .converter)
 
-pub stays-same : (b : Board) (o : ℕ) (e : List ℕ) (ev : Event) → begins b ev ≡ false → ends ev ≡ false → resets ev ≡ false
+pub stays-same : (b : Board) (o : OldestSample) (e : List ℕ) (ev : Event) → begins b ev ≡ false → ends ev ≡ false → resets ev ≡ false
     → Same (b .converter) (acted b o e ev .board .converter)
 unfolding acted begins ends resets latchSet portSet
 stays-same b o e (WriteByte n v) h k a = write-same b (placeOf (b .registers .page) n) v h (place-resets (b .registers .page) n v ∙ a)

@@ -22,6 +22,7 @@ use Rattle.machine_record.specs.Fresh.{freshBoard}
 use Rattle.machine_reset.specs.Reset.{boardReset}
 use Rattle.machine_record.specs.Working.{WorkingMachine}
 use Rattle.base.specs.Flags.{nonzero, on-flag}
+use Rattle.fifo.specs.declared.OldestSample.{OldestSample}
 use Rattle.converter.specs.Channels.{isLast}
 use Rattle.requests.specs.Working as requests
 use Rattle.machine_record.specs.Kept.{converter-kept, calibration-kept, same-working, fresh-working}
@@ -42,7 +43,7 @@ use Rattle.board_events.specs.declared.Event.{Event}
 use Rattle.board_events.specs.declared.Event.the-variants.{WriteByte, ReadByte, ReadWord, ConversionEnd, DinPins, LatchLevel, PortPins, Tick, TransferEnd}
 
 -- ---- the record
-pub acted-works : (b : Board) (o : ℕ) (e : List ℕ) (ev : Event) → WorkingMachine b → refusal (eventChecks b ev) ≡ 0
+pub acted-works : (b : Board) (o : OldestSample) (e : List ℕ) (ev : Event) → WorkingMachine b → refusal (eventChecks b ev) ≡ 0
     → WorkingMachine (acted b o e ev .board)
 unfolding acted
 acted-works b o e (WriteByte n v) w h = written-works b (placeOf (b .registers .page) n) v w

@@ -11,6 +11,7 @@ use Rattle.timer.specs.Bus.{countWritten, controlWordWritten}
 use Rattle.timer.specs.declared.Select.the-variants.{Counter0, Counter1, Counter2}
 use Rattle.timer.specs.declared.accesses.Written.{Written}
 use Rattle.timer.specs.declared.accesses.Written.the-variants.{Accepted, Refused}
+use Rattle.fifo.specs.declared.OldestSample.{OldestSample}
 use Rattle.machine_clock.specs.Clock.{gates, timerMoved, timerMovedBy, countingWritten}
 use Rattle.machine_tick.specs.Tick.{nextTick, dividersTicked, counter0Ticked, counter1Ticked, outputsTicked, ticked}
 use Rattle.machine_pins.specs.Pins.{dinMoved, din0Clocked, din3Triggered, dinSet, latchSet, portSet}
@@ -80,7 +81,7 @@ pub record Moves (b c : Board) (t : ℕ) : Type 0 where
   pub hundred : c .clocks .hundred ≡ movedOn t (b .clocks .hundred) 99
   pub thousand : c .clocks .thousand ≡ movedOn t (b .clocks .thousand) 999
 
-pub dividers-move : (b : Board) (o : ℕ) (e : List ℕ) (ev : Event) → Moves b (acted b o e ev .board) (ticksOf ev)
+pub dividers-move : (b : Board) (o : OldestSample) (e : List ℕ) (ev : Event) → Moves b (acted b o e ev .board) (ticksOf ev)
 unfolding acted dinSet din3Triggered din0Clocked dinMoved timerMoved latchSet portSet ticked outputsTicked counter1Ticked counter0Ticked dividersTicked
 dividers-move b o e (WriteByte n v) = let f = write-free b (placeOf (b .registers .page) n) v in record { hundred = f .hundred; thousand = f .thousand }
 dividers-move b o e (ReadByte n) = let f = read-leaves b (placeOf (b .registers .page) n) in record { hundred = f .hundred; thousand = f .thousand }
@@ -142,7 +143,7 @@ less-none : {x y : ℕ} → x ≡ y → x ≡ y - 0
 less-none {x} {y} h = omega arith
 
 -- a tick takes one off it, and no other event changes it
-pub busy-moves : (b : Board) (o : ℕ) (e : List ℕ) (ev : Event) → resets ev ≡ false → isLoad ev ≡ false
+pub busy-moves : (b : Board) (o : OldestSample) (e : List ℕ) (ev : Event) → resets ev ≡ false → isLoad ev ≡ false
     → acted b o e ev .board .outputs .busy ≡ b .outputs .busy - ticksOf ev
 unfolding acted resets dinSet din3Triggered din0Clocked dinMoved timerMoved latchSet portSet ticked outputsTicked counter1Ticked counter0Ticked dividersTicked
 busy-moves b o e (WriteByte n v) r l = less-none (write-stays b n v l (under-and (eqb n 8) (isReset v) r))

@@ -11,15 +11,18 @@ use Rattle.bus.specs.Effects.{Keep, Take}
 use Rattle.bus.specs.Registers.{readChecks, byteAt, afterRead, readEffect}
 use Rattle.bus.specs.declared.Place.{Place}
 use Rattle.fifo.specs.Queue.{queue, Leaves, poppedFrom}
+use Rattle.fifo.specs.Queue.Steps.{pop-none, none-found}
 use Rattle.fifo.specs.Samples.{oldestOf, popped}
 use Rattle.fifo.specs.declared.Fifo.{Fifo}
+use Rattle.fifo.specs.declared.OldestSample.{OldestSample}
+use Rattle.fifo.specs.declared.OldestSample.the-variants.{NoneHeld, Sample}
 use Rattle.machine_record.specs.Parts.{withFifo}
 use Rattle.machine_record.specs.declared.Board.{Board}
 use Rattle.board_refusal.specs.Refusals.{eventChecks}
 use Rattle.board_step.specs.Act.{acted, eepromActed}
 use Rattle.board_step.specs.Step.{ran}
-use Rattle.board_step.specs.Ways.{Promised, Opened, laid, refused, done}
-use Rattle.board_events.specs.declared.Answer.the-variants.{Refused, Byte, Word}
+use Rattle.board_step.specs.Ways.{Promised, Opened, working, laid, refused, done}
+use Rattle.board_events.specs.declared.Answer.the-variants.{Refused, Byte, Word, Nothing}
 use Rattle.board_events.specs.declared.Event.the-variants.{ReadByte, ReadWord}
 
 -- ---- a byte is read at a place
@@ -56,10 +59,21 @@ module _ (b : Board) (m e : List ℕ) (n : ℕ) where
   unfolding eventChecks
   word-outside o h = refused b m e (ReadWord n) o (rw (ne-eqb n 0 h)) refl
 
-  pub word : {x : ℕ} {f : Fifo} {m′ : List ℕ} → Opened b m e → n ≡ 0 → x ≡ oldestOf (queue (b .fifo) m)
+  -- a sample, which leaves
+  pub word : {x : OldestSample} {v : ℕ} {f : Fifo} {m′ : List ℕ} → Opened b m e → n ≡ 0 → x ≡ oldestOf (queue (b .fifo) m) → x ≡ Sample v
       → Leaves (poppedFrom (b .fifo)) (popped (queue (b .fifo) m)) f m′
-      → Promised b m e (ReadWord n) (record { board = withFifo b f; answer = Word x }) m′ e
+      → Promised b m e (ReadWord n) (record { board = withFifo b f; answer = Word v }) m′ e
   unfolding eventChecks ran acted eepromActed
-  word o h x l =
+  word o h x k l =
       done b m e (ReadWord n) o (rw (eq-eqb n 0 h))
-      (record { outcome = rw (l .fifo, x); memory = l .laid; eeprom = refl })
+      (record { outcome = rw (l .fifo, sym x ∙ k); memory = l .laid; eeprom = refl })
+
+  -- nothing, and then nothing changes
+  pub word-nothing : {x : OldestSample} → Opened b m e → n ≡ 0 → x ≡ oldestOf (queue (b .fifo) m) → x ≡ NoneHeld
+      → Promised b m e (ReadWord n) (record { board = b; answer = Nothing }) m e
+  unfolding eventChecks ran acted eepromActed
+  word-nothing o h x k =
+      let w = working o .fifo in
+      let l = pop-none (b .fifo) m w (none-found (b .fifo) m w (sym k ∙ x)) in
+      done b m e (ReadWord n) o (rw (eq-eqb n 0 h))
+      (record { outcome = rw (sym (l .fifo), sym x ∙ k); memory = l .laid; eeprom = refl })

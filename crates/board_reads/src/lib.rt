@@ -3,6 +3,7 @@
 use board_events::Answer;
 use board_step::Outcome;
 use bus::Place;
+use fifo::OldestSample;
 use machine::Board;
 ghost use mathlib.Core.Path.{_≡_};
 ghost use Rattle.board_step.specs.Step.{stepOf, memoryAfter, eepromAfter};
@@ -22,9 +23,9 @@ pub fn read_byte(board: Board, memory: &mut [u16], eeprom: &mut [u8], offset: u3
     } else {
         let p = bus::map::find(c.registers.page, offset);
         match p {
-            Place::Base0 => Answer::Byte((fifo::oldest(c.fifo, memory) % 256) as u8),
+            Place::Base0 => Answer::Byte(fifo::low_byte(fifo::oldest(c.fifo, memory))),
             Place::Base1 => {
-                let v = (fifo::oldest(c.fifo, memory) / 256) as u8;
+                let v = fifo::high_byte(fifo::oldest(c.fifo, memory));
                 let f = fifo::pop(c.fifo, memory);
                 c.fifo = f;
                 Answer::Byte(v)
@@ -72,7 +73,7 @@ pub fn read_byte(board: Board, memory: &mut [u16], eeprom: &mut [u8], offset: u3
     Outcome { board: c, answer }
 }
 
-// The guest reads a word at an offset: the oldest sample, which leaves.
+// The guest reads a word at an offset: the oldest sample, which leaves, or nothing, and then nothing changes.
 pub fn read_word(board: Board, memory: &mut [u16], eeprom: &mut [u8], offset: u32) -> Outcome
     ensures { λ r. ⌜ r ≡ stepOf board (now (memory .entry)) (now (eeprom .entry)) (ReadWord offset) ⌝ }
     ensures { λ r. ⌜ now (memory .exit) ≡ memoryAfter board (now (memory .entry)) (now (eeprom .entry)) (ReadWord offset) ⌝ }
@@ -86,10 +87,14 @@ pub fn read_word(board: Board, memory: &mut [u16], eeprom: &mut [u8], offset: u3
     } else if offset != 0 {
         Answer::Refused(3)
     } else {
-        let oldest = fifo::oldest(c.fifo, memory);
-        let f = fifo::pop(c.fifo, memory);
-        c.fifo = f;
-        Answer::Word(oldest)
+        match fifo::oldest(c.fifo, memory) {
+            OldestSample::NoneHeld => Answer::Nothing,
+            OldestSample::Sample(sample) => {
+                let f = fifo::pop(c.fifo, memory);
+                c.fifo = f;
+                Answer::Word(sample)
+            }
+        }
     };
     Outcome { board: c, answer }
 }

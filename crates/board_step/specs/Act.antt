@@ -4,6 +4,7 @@
 use Prim.Native.Nat.{ℕ, _%_}
 use mathlib.Core.List.{List}
 use Rattle.base.specs.Flags.{nonzero}
+use Rattle.fifo.specs.declared.OldestSample.{OldestSample}
 use Rattle.converter.specs.Codes.{sampleOf}
 use Rattle.calibration_end.specs.Ends as transfers
 use Rattle.machine_record.specs.Parts.{withCalibration}
@@ -24,7 +25,7 @@ transferEnded b eeprom = withCalibration b (transfers.calibrationEnded (b .calib
 abbrev pub dinLevels : Din → ℕ
 dinLevels d = d .lines % 16
 
-unfoldable pub acted : Board → ℕ → List ℕ → Event → Acted
+unfoldable pub acted : Board → OldestSample → List ℕ → Event → Acted
 acted b oldest eeprom (WriteByte offset value) = writeActed b (placeOf (b .registers .page) offset) value
 acted b oldest eeprom (ReadByte offset) = readActed b oldest (placeOf (b .registers .page) offset)
 acted b oldest eeprom (ReadWord offset) = wordActed b oldest

@@ -2,6 +2,8 @@
 -- "Conversions, edges and requests".
 use Prim.Native.Nat.{ℕ}
 use Rattle.fifo.specs.Queue.{pushedTo}
+use Rattle.fifo.specs.declared.OldestSample.{OldestSample}
+use Rattle.fifo.specs.declared.OldestSample.the-variants.{NoneHeld, Sample}
 use Rattle.converter.specs.Channels.{ended, isLast}
 use Rattle.requests.specs.Requests.{askedAd}
 use Rattle.machine_record.specs.Parts.{withConverter, withRequests}
@@ -10,7 +12,7 @@ use Rattle.bus.specs.Effects.{Effect, Keep, Take, Store}
 use Rattle.bus.specs.Registers.{writtenAt, writeEffect, byteAt, afterRead, readEffect}
 use Rattle.bus.specs.declared.Place.{Place}
 use Rattle.board_events.specs.declared.Answer.{Answer}
-use Rattle.board_events.specs.declared.Answer.the-variants.{Done, Byte, Word}
+use Rattle.board_events.specs.declared.Answer.the-variants.{Done, Byte, Word, Nothing}
 
 -- the record, its sample memory apart, the answer, and what becomes of the samples
 pub record Acted : Type 0 where
@@ -23,12 +25,17 @@ abbrev pub writeActed : Board → Place → ℕ → Acted
 writeActed b p v = record { board = writtenAt b p v; answer = Done; effect = writeEffect p v }
 
 -- a byte read answers its byte
-abbrev pub readActed : Board → ℕ → Place → Acted
+abbrev pub readActed : Board → OldestSample → Place → Acted
 readActed b oldest p = record { board = afterRead b p; answer = Byte (byteAt b oldest p); effect = readEffect p }
 
--- "A word read is 0 then 1 as one event": the oldest sample, which leaves
-abbrev pub wordActed : Board → ℕ → Acted
-wordActed b oldest = record { board = b; answer = Word oldest; effect = Take }
+-- request M-100: "The word read shall say which it was: a sample, or nothing there"
+abbrev pub wordReadAnswer : OldestSample → Answer
+wordReadAnswer NoneHeld = Nothing
+wordReadAnswer (Sample sample) = Word sample
+
+-- "A word read is 0 then 1 as one event": the oldest sample, which leaves, or nothing
+abbrev pub wordActed : Board → OldestSample → Acted
+wordActed b oldest = record { board = b; answer = wordReadAnswer oldest; effect = Take }
 
 -- a conversion ends: the sample is kept, or lost at 512 held; the scan goes on or is over; ADINT by the samples then held
 abbrev pub endActed : Board → ℕ → Acted

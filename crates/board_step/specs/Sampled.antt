@@ -1,16 +1,22 @@
--- The sample memory after an event: what an effect leaves is a working board's, and holds the samples that the definition says; which reads leave it.
-use mathlib.Core.Path.{_≡_, refl, sym, subst}
+-- The sample memory after an event: what an effect leaves is a working board's, and holds the samples that the definition says; which reads leave it;
+-- and that a word read tells every sample from none.
+use mathlib.Core.Path.{_≡_, refl, sym, ap, subst, _∙_}
 use mathlib.Core.List.{List}
 use Prim.Native.Nat.{ℕ}
 use Rattle.fifo.specs.Queue.{queue, layout, WorkingFifo}
 use Rattle.fifo.specs.Queue.Laws.{queue-push, push-works, queue-pop, pop-works, queue-clear, clear-works}
 use Rattle.fifo.specs.declared.Fifo.{Fifo}
+use Rattle.fifo.specs.declared.OldestSample.{OldestSample}
+use Rattle.fifo.specs.declared.OldestSample.the-variants.{NoneHeld, Sample}
 use Rattle.machine_record.specs.declared.Board.{Board}
 use Rattle.bus.specs.Place.{placeOf}
 use Rattle.bus.specs.Effects.{Effect, Keep, Take, Store, Empty}
 use Rattle.bus.specs.Registers.{afterRead, readEffect}
 use Rattle.board_step.specs.Act.{acted}
+use Rattle.board_step.specs.Acted.{wordReadAnswer}
 use Rattle.board_step.specs.Step.{samplesAfter, fifoAfter, ran}
+use Rattle.board_events.specs.declared.Answer.{Answer}
+use Rattle.board_events.specs.declared.Answer.the-variants.{Done, Byte, Word, Nothing, Refused}
 use Rattle.board_events.specs.declared.Event.the-variants.{ReadByte}
 
 module _ (f : Fifo) (m : List ℕ) (w : WorkingFifo f m) where
@@ -37,3 +43,18 @@ module _ (b : Board) (samples eeprom : List ℕ) where
   pub status-read-keeps : (ran b samples eeprom (ReadByte 7) .samples ≡ samples) × (ran b samples eeprom (ReadByte 7) .board ≡ b)
   unfolding ran acted placeOf readEffect afterRead
   status-read-keeps = (refl, refl)
+
+-- ---- the word read says which it was: what is answered alike is the same
+pub says-which : (o p : OldestSample) → wordReadAnswer o ≡ wordReadAnswer p → o ≡ p
+says-which o p h = sym (found-again o) ∙ ap found h ∙ found-again p
+  where
+    found : Answer → OldestSample
+    found Done = NoneHeld
+    found (Byte value) = NoneHeld
+    found (Word value) = Sample value
+    found Nothing = NoneHeld
+    found (Refused number) = NoneHeld
+
+    found-again : (q : OldestSample) → found (wordReadAnswer q) ≡ q
+    found-again NoneHeld = refl
+    found-again (Sample sample) = refl

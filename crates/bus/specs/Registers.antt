@@ -2,9 +2,11 @@
 -- does, what a read there shows and does, and by which number either is refused: 3 offset above 15; 6 write to 4 or 5 while DACBUSY, or on page 3
 -- to 12-14 while a transfer runs; 9 more than one of EE_EN, RUNCAL, TDACEN; 8 EEPROM command without key; 7 setting not modelled: any access to
 -- page 2 offset 15, the listed 8254 and 8255 cases. The order is 3, 6, 9, 8, 7. The words of the rows are those of Rows.
-use Prim.Native.Nat.{ℕ, _/_, _%_}
+use Prim.Native.Nat.{ℕ}
 use mathlib.Core.List.{List, [], _∷_}
 use Rattle.base.specs.Checks.{Check, _refuses_}
+use Rattle.fifo.specs.Samples.{lowByteOf, highByteOf}
+use Rattle.fifo.specs.declared.OldestSample.{OldestSample}
 use Rattle.converter.specs.Channels.{softwareTriggered}
 use Rattle.converter.specs.Registers.{writtenLow, writtenHigh}
 use Rattle.requests.specs.Registers.{writtenDepth, FIFORST, requestBits}
@@ -27,14 +29,14 @@ use Rattle.bus.specs.declared.Place.the-variants.{Reserved, Auxiliary, C
 
 unfoldable pub registerAt : Place → Register
 -- ---- chapter 7
--- Base + 0. Write: Start A/D Conversion, "the value written does not matter". Read: A/D LSB, "low byte of the oldest sample, no change"
+-- Base + 0. Write: Start A/D Conversion, "the value written does not matter". Read: A/D LSB, "low byte of the oldest sample, no change"; "Empty: FF"
 registerAt Base0 =
     write toConverter (λ c v. softwareTriggered c)
-    read showingOldest (λ sample. sample % 256)
--- Base + 1. Write: Auxiliary Digital Output. Read: A/D MSB, "its high byte, and the sample leaves; OVF clears"
+    read showingOldest lowByteOf
+-- Base + 1. Write: Auxiliary Digital Output. Read: A/D MSB, "its high byte, and the sample leaves; OVF clears"; "Empty: FF"
 registerAt Base1 =
     write toRegisters withDout
-    read takingOldest (λ sample. sample / 256)
+    read takingOldest highByteOf
 -- Base + 2. Read/Write: A/D Low Channel Register
 registerAt Base2 =
     write toConverter writtenLow
@@ -144,7 +146,7 @@ unfoldable pub readChecks : Place → List Check
 unfolding registerAt
 readChecks p = registerAt p .read .checks
 
-unfoldable pub byteAt : Board → ℕ → Place → ℕ
+unfoldable pub byteAt : Board → OldestSample → Place → ℕ
 unfolding registerAt
 byteAt b oldest p = registerAt p .read .shows b oldest
 

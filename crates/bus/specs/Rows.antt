@@ -5,6 +5,7 @@ use mathlib.Core.Bool.{Bool, true}
 use mathlib.Core.List.{List, [], _∷_}
 use Rattle.base.specs.Choice.{if_then_else_}
 use Rattle.base.specs.Checks.{Check, _refuses_}
+use Rattle.fifo.specs.declared.OldestSample.{OldestSample}
 use Rattle.converter.specs.declared.channels.Converter.{Converter}
 use Rattle.requests.specs.declared.Requests.{Requests}
 use Rattle.outputs.specs.declared.Outputs.{Outputs}
@@ -25,11 +26,11 @@ pub record RegisterWrite : Type 0 where
   pub makes : Board → ℕ → Board
   pub effect : ℕ → Effect
 
--- a read: the checks that it meets, the byte that it shows, by the board and the oldest sample (FFFF where none is held), what it makes of the board,
+-- a read: the checks that it meets, the byte that it shows, by the board and the oldest sample or that none is held, what it makes of the board,
 -- and what becomes of the samples
 pub record RegisterRead : Type 0 where
   pub checks : List Check
-  pub shows : Board → ℕ → ℕ
+  pub shows : Board → OldestSample → ℕ
   pub makes : Board → Board
   pub effect : Effect
 
@@ -92,11 +93,11 @@ abbrev pub showing : (Board → ℕ) → RegisterRead
 showing f = record { checks = []; shows = λ b oldest. f b; makes = λ b. b; effect = Keep }
 
 -- it shows this byte of the oldest sample, which stays
-abbrev pub showingOldest : (ℕ → ℕ) → RegisterRead
+abbrev pub showingOldest : (OldestSample → ℕ) → RegisterRead
 showingOldest f = record { checks = []; shows = λ b oldest. f oldest; makes = λ b. b; effect = Keep }
 
 -- which leaves
-abbrev pub takingOldest : (ℕ → ℕ) → RegisterRead
+abbrev pub takingOldest : (OldestSample → ℕ) → RegisterRead
 takingOldest f = record { checks = []; shows = λ b oldest. f oldest; makes = λ b. b; effect = Take }
 
 -- and it makes this of the board

@@ -41,6 +41,9 @@ fn show(answer: Answer) {
         Answer::Done => {}
         Answer::Byte(v) => view::show_byte(v),
         Answer::Word(v) => view::show_word(v),
+        Answer::Nothing => {
+            io::write_all(STDOUT_FILENO, b" empty");
+        }
         Answer::Refused(n) => show_refusal(n),
     }
 }

@@ -1,6 +1,6 @@
 // The operations of a case. Settings: lLLHH low and high, jHH jumpers, gHH range code, kHHHH clock, mHHHH poll limit. s starts with them.
 // The record, as a host could lend it: i puts the settings into it; pHH phase, cHH next channel, oHHHH polls, dHHHH reads left.
-// q shows the access; aHHHH brings an answer and shows what is handed over; nCCCCHHHH brings an answer CCCC times and shows how many
+// q shows the access; aHHHH brings a number and shows what is handed over, e brings nothing; nCCCCHHHH brings a number CCCC times and shows how many
 // samples and gaps there were before the last, and the last; h shows the record, f whether it is fit.
 // zLLHHNNNN shows how many of N samples are whole scans of the channels from L to H, and the last of them.
 use super::shows;
@@ -108,10 +108,10 @@ fn start(b: CollectorBench) -> CollectorBench {
 }
 
 // Brings an answer.
-fn answer(b: CollectorBench, value: u32) -> CollectorBench {
+fn answer(b: CollectorBench, brought: BusAnswer) -> CollectorBench {
     let s = b.settings;
     let c = b.collector;
-    let t = collector::take_answer(c, BusAnswer::Number(word(value)));
+    let t = collector::take_answer(c, brought);
     shows::taken(t);
     let d = t.collector;
     CollectorBench {
@@ -165,7 +165,7 @@ fn answers(b: CollectorBench, count: u32, value: u32) -> CollectorBench {
             settings: s,
             collector: c,
         },
-        value,
+        BusAnswer::Number(word(value)),
     )
 }
 
@@ -231,7 +231,8 @@ pub fn operate_collector(b: CollectorBench, letter: u8, value: u32) -> Collector
         b'i' | b'p' | b'c' | b'o' | b'd' => poke(b, letter, value),
         b's' => start(b),
         b'q' => show_access(b),
-        b'a' => answer(b, value),
+        b'a' => answer(b, BusAnswer::Number(word(value))),
+        b'e' => answer(b, BusAnswer::Nothing),
         b'n' => answers(b, value / 65536, value),
         b'h' => show_record(b),
         b'f' => show_fit(b),

@@ -1,6 +1,6 @@
 -- A drain as a whole (the specification, "The collector": "512 word reads handed over, a gap marked with the last, start again").
 use Prim.Native.Nat.{ℕ, suc, _+_, _-_, _≤_, _<_}
-use mathlib.Core.Path.{_≡_, refl, ap, subst, _∙_}
+use mathlib.Core.Path.{_≡_, refl, ap, subst, sym, _∙_}
 use mathlib.Core.Bool.{Bool, true, false}
 use mathlib.Core.List.{List, [], _∷_, _++_, map}
 use native.Mathlib.Omega.{arith}
@@ -8,6 +8,7 @@ use borrow.Author.Tests.{leb-true, leb-false}
 use lib.Dec.{eqb}
 use lib.ListN.{length}
 use Rattle.base.specs.Choice.{if_then_else_}
+use Rattle.base.specs.Laws.{never}
 use Rattle.collector_settings.specs.declared.Settings.{Settings}
 use Rattle.collector_phases.specs.declared.Collector.{Collector}
 use Rattle.samples.specs.declared.Sample.{Sample}
@@ -17,23 +18,24 @@ use Rattle.collector_steps.specs.declared.Handed.{Handed}
 use Rattle.collector_steps.specs.declared.Handed.the-variants.{OneSample}
 use Rattle.collector_steps.specs.declared.Taken.{Taken}
 use Rattle.collector_phases.specs.Phases.{phaseNumber, phaseOf}
-use Rattle.collector_answers.specs.Answers.{sampleAt}
+use Rattle.collector_answers.specs.declared.BusAnswer.the-variants as bus
+use Rattle.collector_answers.specs.Answers.{isNothing, sampleAt}
 use Rattle.collector_phases.specs.Fit.{FitCollector}
 use Rattle.collector_records.specs.Records.{firstRecord, draining, passed}
 use Rattle.collector_steps.specs.Reads.{reports, closes}
 use Rattle.collector_replies.specs.Reply.{replied}
 use Rattle.collector.specs.Handed.{samplesOf, gapMarked}
-use Rattle.collector.specs.Steps.{Step, step, drained, closed}
+use Rattle.collector.specs.Steps.{Step, step, drained, closed, drain-nothing, same-word}
 use Rattle.collector.specs.Kept.{replied-fit, draining-fit}
 
--- what these answers, one after the other, hand over, and the collector after them
+-- what these words, one after the other, hand over, and the collector after them
 unfoldable pub handing : Collector → List ℕ → List Handed
 handing c [] = []
-handing c (a ∷ ws) = replied c a .handed ∷ handing (replied c a .collector) ws
+handing c (a ∷ ws) = replied c (bus.Number a) .handed ∷ handing (replied c (bus.Number a) .collector) ws
 
 unfoldable pub ahead : Collector → List ℕ → Collector
 ahead c [] = c
-ahead c (a ∷ ws) = ahead (replied c a .collector) ws
+ahead c (a ∷ ws) = ahead (replied c (bus.Number a) .collector) ws
 
 -- all samples of that
 abbrev pub samplesIn : List Handed → List Sample
@@ -62,28 +64,31 @@ pub record Drained (c : Collector) (words : List ℕ) : Type 0 where
   -- and the collector starts again
   pub again : ahead c words ≡ firstRecord (c .settings)
 
-drain-last : (c : Collector) (a : ℕ) (r : Taken) → c .left ≤ 1 → Step c a Drain r → r ≡ closes c a
-drain-last c a r h (drained e) = absurd (let g : 1 < c .left = leb-false _ _ e in omega arith)
-drain-last c a r h (closed e) = refl
+drain-last : (c : Collector) (a : ℕ) (r : Taken) → c .left ≤ 1 → Step c (bus.Number a) Drain r → r ≡ closes c a
+drain-last c a r h (drained word i e) = absurd (let g : 1 < c .left = leb-false _ _ e in omega arith)
+drain-last c a r h (closed word i e) = ap (closes c) (sym (same-word a word i))
+drain-last c a r h (drain-nothing i) = never (ap isNothing i)
 
-drain-more : (c : Collector) (a : ℕ) (r : Taken) → 1 < c .left → Step c a Drain r
+drain-more : (c : Collector) (a : ℕ) (r : Taken) → 1 < c .left → Step c (bus.Number a) Drain r
     → r ≡ reports (passed c (phaseNumber Drain) (c .left - 1)) (OneSample (sampleAt (c .next) a))
-drain-more c a r h (drained e) = refl
-drain-more c a r h (closed e) = absurd (let g : c .left ≤ 1 = leb-true _ _ e in omega arith)
+drain-more c a r h (drained word i e) =
+    ap (λ (n : ℕ). reports (passed c (phaseNumber Drain) (c .left - 1)) (OneSample (sampleAt (c .next) n))) (sym (same-word a word i))
+drain-more c a r h (closed word i e) = absurd (let g : c .left ≤ 1 = leb-true _ _ e in omega arith)
+drain-more c a r h (drain-nothing i) = never (ap isNothing i)
 
-in-drain : (c : Collector) (a : ℕ) → FitCollector c → phaseOf (c .phase) ≡ Drain → Step c a Drain (replied c a)
-in-drain c a w e = subst (λ (p : Phase). Step c a p (replied c a)) e (step c a w)
+in-drain : (c : Collector) (a : ℕ) → FitCollector c → phaseOf (c .phase) ≡ Drain → Step c (bus.Number a) Drain (replied c (bus.Number a))
+in-drain c a w e = subst (λ (p : Phase). Step c (bus.Number a) p (replied c (bus.Number a))) e (step c (bus.Number a) refl w)
 
 -- in a drain, as many words as are left
 pub drains : (c : Collector) (a : ℕ) (ws : List ℕ) → FitCollector c → phaseOf (c .phase) ≡ Drain → c .left ≡ suc (length ws) → Drained c (a ∷ ws)
 unfolding handing ahead phaseOf
 drains c a [] w e h =
-    let q = drain-last c a (replied c a) (omega arith) (in-drain c a w e) in
+    let q = drain-last c a (replied c (bus.Number a)) (omega arith) (in-drain c a w e) in
     record { samples = rw q; gap = rw q; again = ap (λ (r : Taken). r .collector) q }
 drains c a (b ∷ bs) w e h =
-    let q = drain-more c a (replied c a) (omega arith) (in-drain c a w e) in
+    let q = drain-more c a (replied c (bus.Number a)) (omega arith) (in-drain c a w e) in
     let d = passed c (phaseNumber Drain) (c .left - 1) in
-    let f : FitCollector d = subst (λ (r : Taken). FitCollector (r .collector)) q (replied-fit c w a) in
+    let f : FitCollector d = subst (λ (r : Taken). FitCollector (r .collector)) q (replied-fit c w (bus.Number a)) in
     let t = drains d b bs f refl (omega arith) in
     record {
       samples = rw q (ap (λ (l : List Sample). sampleAt (c .next) a ∷ l) (t .samples));

@@ -12,6 +12,7 @@ use Rattle.collector_phases.specs.declared.Collector.{Collector}
 use Rattle.collector_phases.specs.declared.Phase.{Phase}
 use Rattle.collector_phases.specs.declared.Phase.the-variants.{Stop, Poll, Range, Clear, Low, High, Go, Look, Take, Drain, Stuck}
 use Rattle.collector_records.specs.declared.Started.the-variants.{Begun, NotBegun}
+use Rattle.collector_answers.specs.declared.BusAnswer.{BusAnswer}
 use Rattle.collector_steps.specs.declared.Taken.{Taken}
 use Rattle.collector_settings.specs.Settings.{startRefusal}
 use Rattle.collector_phases.specs.Phases.{phaseNumber, phaseOf}
@@ -19,9 +20,9 @@ use Rattle.collector_phases.specs.Fit.{FitSettings, FitIn, FitCollector}
 use Rattle.collector_replies.specs.Joined.{settings-of, settings-to}
 use Rattle.collector_records.specs.Records.{firstRecord, startOf, entered, pollCounted, draining, follows, following, passed}
 use Rattle.collector_replies.specs.Reply.{replied}
-use Rattle.collector.specs.Steps.{Step, step}
-use Rattle.collector.specs.Steps.{stopped, poll-wide, poll-free, poll-again, poll-last, ranged, cleared, lowered, raised, went}
-use Rattle.collector.specs.Steps.{look-wide, look-empty, look-full, look-few, taken, drained, closed, stands}
+use Rattle.collector.specs.Steps.{Step, Reply, stepped, stays, reply}
+use Rattle.collector.specs.Steps.{stopped, poll-no-byte, poll-free, poll-again, poll-last, ranged, cleared, lowered, raised, went}
+use Rattle.collector.specs.Steps.{look-no-byte, look-empty, look-full, look-few, taken, take-nothing, drained, closed, drain-nothing, stands}
 
 -- ---- a start
 pub begun-fit : (s : Settings) → FitSettings s → FitCollector (firstRecord s)
@@ -82,11 +83,11 @@ module _ (c : Collector) (w : FitCollector c) where
       record { settings = w .settings; from-low = following-from; to-high = following-to; polls = w .polls; phase = f }
 
   -- ---- every step
-  kept : (a : ℕ) (p : Phase) (r : Taken) → FitIn p c → Step c a p r → FitCollector (r .collector)
+  kept : (a : BusAnswer) (p : Phase) (r : Taken) → FitIn p c → Step c a p r → FitCollector (r .collector)
   unfolding phaseOf
   kept a Stop r f stopped =
       entered-fit (phaseNumber Poll) (let k : 1 ≤ c .settings .limit = w .settings .some-polls in let z : c .polls ≡ 0 = f in omega arith)
-  kept a Poll r f (poll-wide e) = w
+  kept a Poll r f (poll-no-byte e) = w
   kept a Poll r f (poll-free e t) = counted-fit (phaseNumber Range) f tt
   kept a Poll r f (poll-again e t l) = counted-fit (phaseNumber Poll) f (let g : c .polls + 1 < c .settings .limit = leb-false _ _ l in g)
   kept a Poll r f (poll-last e t l) = counted-fit (phaseNumber Stuck) f tt
@@ -95,16 +96,22 @@ module _ (c : Collector) (w : FitCollector c) where
   kept a Low r f lowered = entered-fit (phaseNumber High) tt
   kept a High r f raised = entered-fit (phaseNumber Go) tt
   kept a Go r f went = entered-fit (phaseNumber Look) tt
-  kept a Look r f (look-wide e) = w
+  kept a Look r f (look-no-byte e) = w
   kept a Look r f (look-empty e t) = w
   kept a Look r f (look-full e t l) = draining-fit
   kept a Look r f (look-few e t l) = entered-fit (phaseNumber Take) tt
-  kept a Take r f taken = passed-fit (phaseNumber Look) (c .left) tt
-  kept a Drain r f (drained e) =
+  kept a Take r f (take-nothing n) = w
+  kept a Take r f (taken word n) = passed-fit (phaseNumber Look) (c .left) tt
+  kept a Drain r f (drain-nothing n) = w
+  kept a Drain r f (drained word n e) =
       passed-fit (phaseNumber Drain) (c .left - 1)
       (let g : 1 < c .left = leb-false _ _ e in let h : c .left ≤ 512 = f .1 in (omega arith, omega arith))
-  kept a Drain r f (closed e) = begun-fit (c .settings) (w .settings)
+  kept a Drain r f (closed word n e) = begun-fit (c .settings) (w .settings)
   kept a Stuck r f stands = w
 
-  pub replied-fit : (a : ℕ) → FitCollector (replied c a .collector)
-  replied-fit a = kept a (phaseOf (c .phase)) (replied c a) (w .phase) (step c a w)
+  pub replied-fit : (a : BusAnswer) → FitCollector (replied c a .collector)
+  replied-fit a = by a (replied c a) (reply c a w)
+    where
+      by : (a : BusAnswer) (r : Taken) → Reply c a r → FitCollector (r .collector)
+      by a r (stepped _ _ t s) = kept a (phaseOf (c .phase)) r (w .phase) s
+      by a r (stays n number) = w

@@ -6,3 +6,4 @@ pub mod Counts
 pub mod History
 pub mod Table
 pub mod Drains
+pub mod Nothing

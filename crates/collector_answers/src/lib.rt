@@ -1,15 +1,17 @@
-// How an answer of the bus is read: specs/Answers.antt.
+// How what came of a bus access is read: specs/Answers.antt.
 ghost use mathlib.Core.Path.{_≡_};
 ghost use Rattle.collector_answers.specs.Answers.{wide, STS, EF, FF, sampleAt};
 use samples::Sample;
 
-// What came of an access: the number that the bus brought (a byte, a word, or for a write anything), or the number by which the board refused it.
+// What came of an access: the number that the bus brought (a byte, a word, or for a write anything), nothing, where a word was read and none was there, or
+// the number by which the board refused it.
 pub enum BusAnswer {
     Number(u16),
     Refused(u8),
+    Nothing,
 }
 
-// No byte: above 255.
+// A number above 255, which is no byte.
 pub fn is_wide(a: u16) -> bool
     ensures { λ r. ⌜ r ≡ wide a ⌝ }
 {

@@ -65,6 +65,12 @@ isByteRead (ReadByte o) = true
 isByteRead (ReadWord o) = false
 isByteRead (NoAccess n) = false
 
+abbrev pub isWordRead : Access → Bool
+isWordRead (WriteByte o v) = false
+isWordRead (ReadByte o) = false
+isWordRead (ReadWord o) = true
+isWordRead (NoAccess n) = false
+
 -- the byte read at the offset n
 abbrev pub reads : ℕ → Access → Bool
 reads n (WriteByte o v) = false

@@ -15,7 +15,7 @@ ghost use Rattle.board_refusal.specs.Working.{isWorkingBoard};
 ghost use Rattle.board_advance.specs.Advance.{advancedOf};
 ghost use Rattle.collector_records.specs.Records.{startOf};
 ghost use Rattle.collector_phases.specs.Accesses.{accessOf};
-ghost use Rattle.collector_replies.specs.Reply.{told};
+ghost use Rattle.collector_replies.specs.Reply.{replied};
 ghost use Rattle.collector_phases.specs.Fit.{fit};
 ghost use Rattle.samples.specs.Scans.{wholeScans};
 ghost use Rattle.numbers_answers.specs.Packed.{answerNumber};
@@ -99,7 +99,7 @@ pub extern "C" fn dmm32_collector_access(c: Collector) -> AccessNamed
 // Takes what came of that access.
 #[no_mangle]
 pub extern "C" fn dmm32_collector_take(c: Collector, brought: BusNumbers) -> TakenAnswer
-    ensures { λ r. ⌜ r ≡ takenAnswer (told c (busAnswer brought)) ⌝ }
+    ensures { λ r. ⌜ r ≡ takenAnswer (replied c (busAnswer brought)) ⌝ }
 {
     numbers_collector::take(c, brought)
 }

@@ -5,7 +5,7 @@ ghost use mathlib.Core.List.{[]};
 ghost use Prim.Native.Nat.{_+_, _*_, _≤_, _<_};
 ghost use lib.Dec.{eqb};
 ghost use lib.ListN.{length, take, drop};
-ghost use Rattle.fifo.specs.Samples.{oldestOf, pushed, popped};
+ghost use Rattle.fifo.specs.Samples.{oldestOf, lowByteOf, highByteOf, pushed, popped};
 ghost use Rattle.fifo.specs.Flags.{EF, HF, FF, flagBits};
 ghost use Rattle.fifo.specs.Queue.{zeros, queue, emptyFifo, pushedTo, poppedFrom, Leaves, isWorkingFifo, WorkingFifo};
 ghost use Rattle.fifo.specs.Moves.{movedDown};
@@ -15,6 +15,12 @@ pub struct Fifo {
     pub held: u16,
     // wide enough that the record has no padding
     pub ovf: u16,
+}
+
+// What a read finds: no sample held, or the oldest one. Every number of 16 bits is a sample.
+pub enum OldestSample {
+    NoneHeld,
+    Sample(u16),
 }
 
 // The bits of the `n` places from `at` on, joined: none where every place is 0.
@@ -76,12 +82,35 @@ pub fn is_working(f: Fifo, memory: &[u16]) -> bool
     }
 }
 
-// The oldest sample, or 65535 where none is held.
-pub fn oldest(f: Fifo, memory: &[u16]) -> u16
+// The oldest sample, where one is held.
+pub fn oldest(f: Fifo, memory: &[u16]) -> OldestSample
     requires { ⌜ WorkingFifo f (now memory) ⌝ }
     ensures { λ r. ⌜ r ≡ oldestOf (queue f (now (memory .entry))) ⌝ }
 {
-    if f.held == 0 { 65535 } else { memory[0] }
+    if f.held == 0 {
+        return OldestSample::NoneHeld;
+    }
+    OldestSample::Sample(memory[0])
+}
+
+// The low byte of the oldest sample; FF where none is held.
+pub fn low_byte(oldest: OldestSample) -> u8
+    ensures { λ r. ⌜ r ≡ lowByteOf oldest ⌝ }
+{
+    match oldest {
+        OldestSample::NoneHeld => 0xFF,
+        OldestSample::Sample(sample) => (sample % 256) as u8,
+    }
+}
+
+// Its high byte; FF where none is held.
+pub fn high_byte(oldest: OldestSample) -> u8
+    ensures { λ r. ⌜ r ≡ highByteOf oldest ⌝ }
+{
+    match oldest {
+        OldestSample::NoneHeld => 0xFF,
+        OldestSample::Sample(sample) => (sample / 256) as u8,
+    }
 }
 
 // A conversion's end: the new sample is kept, or lost where 512 are held.

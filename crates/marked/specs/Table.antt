@@ -12,7 +12,7 @@ use Rattle.counter_element.specs.Element.{countedBy}
 use Rattle.counter_one.specs.Counter.{commanded, pulsed, gateMoved, counterRead, byteRefused, byteWritten}
 use Rattle.timer.specs.Timer.{moved, clockedIf, gatesMoved}
 use Rattle.timer.specs.Bus.{controlWordRefused, controlWordWritten, countRefused, countWritten, timerRead}
-use Rattle.fifo.specs.Samples.{oldestOf, pushed}
+use Rattle.fifo.specs.Samples.{pushed}
 use Rattle.fifo.specs.Queue.{pushedTo, poppedFrom}
 use Rattle.fifo.specs.Flags.{flagBits}
 use Rattle.converter.specs.Channels.{nextChannel}
@@ -56,9 +56,9 @@ pub record Marked : Type 0 where
   -- 1. 7←0A on an empty board: 7 reads 88
   pub case-1 : answers fresh (WriteByte 7 0x0A ∷ ReadByte 7 ∷ []) ≡ Done ∷ Byte 0x88 ∷ []
   -- 2. 512 held: 7 reads 60; one more end: 70; word read: 511 held, OVF clear
-  pub case-2 : (samples : List ℕ) → length samples ≡ 512
-      → answers (full samples) (ReadByte 7 ∷ WriteByte 0 0 ∷ ConversionEnd (pos 1) ∷ ReadByte 7 ∷ ReadWord 0 ∷ [])
-      ≡ Byte 0x60 ∷ Done ∷ Done ∷ Byte 0x70 ∷ Word (oldestOf samples) ∷ []
+  pub case-2 : (oldest : ℕ) (others : List ℕ) → length (oldest ∷ others) ≡ 512
+      → answers (full (oldest ∷ others)) (ReadByte 7 ∷ WriteByte 0 0 ∷ ConversionEnd (pos 1) ∷ ReadByte 7 ∷ ReadWord 0 ∷ [])
+      ≡ Byte 0x60 ∷ Done ∷ Done ∷ Byte 0x70 ∷ Word oldest ∷ []
   pub case-2-held : (samples : List ℕ) → length samples ≡ 512
       → afterEvents (full samples) (WriteByte 0 0 ∷ ConversionEnd (pos 1) ∷ ReadWord 0 ∷ []) .board .fifo ≡ record { held = 511; ovf = 0 }
   -- 3. Channels 3-5, five conversions: 3,4,5,3,4; selected 5
@@ -114,9 +114,9 @@ marked =
       fresh-works = runs.fresh-works;
       full-works = runs.full-works;
       case-1 = said (WriteByte 7 0x0A ∷ ReadByte 7 ∷ []);
-      case-2 = λ samples l.
-          runs.answers-held (full samples) (runs.fullHeld samples)
-          (ReadByte 7 ∷ WriteByte 0 0 ∷ ConversionEnd (pos 1) ∷ ReadByte 7 ∷ ReadWord 0 ∷ []) (runs.full-holds samples l) ∙ rw l;
+      case-2 = λ oldest others l.
+          runs.answers-held (full (oldest ∷ others)) (runs.fullHeld (oldest ∷ others))
+          (ReadByte 7 ∷ WriteByte 0 0 ∷ ConversionEnd (pos 1) ∷ ReadByte 7 ∷ ReadWord 0 ∷ []) (runs.full-holds (oldest ∷ others) l) ∙ rw l;
       case-2-held = λ samples l.
           ap (λ (b : Board). b .fifo)
           (runs.board-held _ _ (runs.events-hold (full samples) (runs.fullHeld samples)

@@ -1,5 +1,5 @@
 -- The value in a step's answer is one of 16 bits: a read shows registers and counts within their types, bits of a byte, or a byte of the oldest sample; a word
--- read the oldest sample. Bounds for Decoded.antt.
+-- read the oldest sample; either all ones where none is held. Bounds for Decoded.antt.
 use Prim.Native.Nat.{ℕ, _<_}
 use mathlib.Core.Path.{_≡_, refl, subst}
 use mathlib.Core.Bool.{Bool, true, false}
@@ -14,10 +14,12 @@ use Rattle.base.specs.Choice.{if_then_else_}
 use Rattle.base.specs.Flags.{on}
 use Rattle.base.specs.Weights.{weight-le}
 use Rattle.fifo.specs.Flags.{flags-fit}
-use Rattle.fifo.specs.Samples.{oldestOf}
+use Rattle.fifo.specs.Samples.{oldestOf, lowByteOf, highByteOf}
 use Rattle.fifo.specs.Queue.{queue, WorkingFifo}
 use Rattle.fifo.specs.Queue.Steps.{oldest-none, oldest-some}
 use Rattle.fifo.specs.declared.Fifo.{Fifo}
+use Rattle.fifo.specs.declared.OldestSample.{OldestSample}
+use Rattle.fifo.specs.declared.OldestSample.the-variants.{NoneHeld, Sample}
 use Rattle.converter.specs.Bytes.{status-fits}
 use Rattle.converter.proofs.channels.Converter as converter
 use Rattle.converter.proofs.channels.Converter.Laws as converterᴸ
@@ -75,6 +77,7 @@ use Rattle.board_events.specs.declared.Event.{Event}
 use Rattle.board_events.specs.declared.Event.the-variants.{WriteByte, ReadByte, ReadWord, ConversionEnd, DinPins, LatchLevel, PortPins, Tick, TransferEnd}
 use Rattle.board_events.specs.Answers.{valueRead}
 use Rattle.bus.specs.Place.{placeOf}
+use Rattle.board_step.specs.Acted.{wordReadAnswer}
 use Rattle.board_step.specs.Step.{refusalOf, stepOf}
 use Rattle.board_step.specs.Passed.{all-passed}
 use Rattle.board_laws.specs.Answers.{valueBrought, answer-value}
@@ -161,11 +164,30 @@ registers-below b r =
       address = k .1 .0 .1;
     }
 
+-- ---- the oldest sample, or none
+abbrev Below : OldestSample → Type 0
+Below o = valueRead (wordReadAnswer o) < 65536
+
+low-below : (o : OldestSample) → lowByteOf o < 65536
+low-below NoneHeld = omega arith
+low-below (Sample v) = omega arith
+
+high-below : (o : OldestSample) → Below o → highByteOf o < 65536
+high-below NoneHeld h = omega arith
+high-below (Sample v) h = omega arith
+
+oldest-below : (f : Fifo) (m : List ℕ) → WorkingFifo f m → Sixteen m → Below (oldestOf (queue f m))
+oldest-below f m w s = by (eqb (f .held) 0) refl
+  where
+    by : (t : Bool) → eqb (f .held) 0 ≡ t → Below (oldestOf (queue f m))
+    by true e = subst Below (oldest-none f m (eqb-true (f .held) 0 e)) (omega arith)
+    by false e = subst Below (oldest-some f m w (eqb-false (f .held) 0 e)) (s 0)
+
 -- ---- the byte of any place, the oldest sample being o
-place-below : (b : Board) (o : ℕ) (p : Place) → Recorded b → o < 65536 → byteAt b o p < 65536
+place-below : (b : Board) (o : OldestSample) (p : Place) → Recorded b → Below o → byteAt b o p < 65536
 unfolding byteAt
-place-below b o Base0 r h = omega arith
-place-below b o Base1 r h = omega arith
+place-below b o Base0 r h = low-below o
+place-below b o Base1 r h = high-below o h
 place-below b o Base2 r h = omega (arith, registers-below b r .low)
 place-below b o Base3 r h = omega (arith, registers-below b r .high)
 place-below b o Base4 r h = omega (arith, weight-le (dacbusy (b .outputs)) 128, weight-le (calbusy (b .calibration)) 64)
@@ -205,16 +227,8 @@ place-below b o CalBase14 r h =
 place-below b o CalBase15 r h = omega arith
 place-below b o Outside r h = omega arith
 
--- ---- the oldest sample
-oldest-below : (f : Fifo) (m : List ℕ) → WorkingFifo f m → Sixteen m → oldestOf (queue f m) < 65536
-oldest-below f m w s = by (eqb (f .held) 0) refl
-  where
-    by : (t : Bool) → eqb (f .held) 0 ≡ t → oldestOf (queue f m) < 65536
-    by true e = subst (λ (n : ℕ). n < 65536) (oldest-none f m (eqb-true (f .held) 0 e)) (omega arith)
-    by false e = subst (λ (n : ℕ). n < 65536) (oldest-some f m w (eqb-false (f .held) 0 e)) (s 0)
-
 -- ---- what an event brings
-brought-below : (b : Board) (m : List ℕ) (ev : Event) → Recorded b → oldestOf (queue (b .fifo) m) < 65536 → valueBrought b (queue (b .fifo) m) ev < 65536
+brought-below : (b : Board) (m : List ℕ) (ev : Event) → Recorded b → Below (oldestOf (queue (b .fifo) m)) → valueBrought b (queue (b .fifo) m) ev < 65536
 unfolding valueBrought
 brought-below b m (WriteByte n v) r h = omega arith
 brought-below b m (ReadByte n) r h = place-below b (oldestOf (queue (b .fifo) m)) (placeOf (b .registers .page) n) r h

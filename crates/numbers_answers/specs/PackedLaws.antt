@@ -4,7 +4,7 @@ use mathlib.Core.Path.{_≡_, refl, ap}
 use native.Mathlib.Omega.{arith}
 use Rattle.board_events.specs.Answers.{refusalNumber, valueRead}
 use Rattle.board_events.specs.declared.Answer.{Answer}
-use Rattle.board_events.specs.declared.Answer.the-variants.{Done, Byte, Word, Refused}
+use Rattle.board_events.specs.declared.Answer.the-variants.{Done, Byte, Word, Nothing, Refused}
 use Rattle.numbers_answers.specs.Packed.{packed, answerNumber, kindBits, refusalIn, valueIn, decoded}
 
 pub kind-in : (kind refusal value : ℕ) → value < 65536 → kindBits (packed kind refusal value) ≡ kind
@@ -24,4 +24,5 @@ pub decoded-answer : (a : Answer) → refusalNumber a < 32 → valueRead a < 655
 decoded-answer Done r v = refl
 decoded-answer (Byte x) r v = rw (kind-in 1 0 x v, value-in 1 0 x v)
 decoded-answer (Word x) r v = rw (kind-in 2 0 x v, value-in 2 0 x v)
+decoded-answer Nothing r v = refl
 decoded-answer (Refused n) r v = rw (kind-in 3 n 0 v, refusal-in 3 n 0 v) (ap Refused (omega (arith, r)))

@@ -41,9 +41,9 @@ accessNamed (ReadByte offset) = record { kind = 2; offset = offset; value = 0; r
 accessNamed (ReadWord offset) = record { kind = 3; offset = offset; value = 0; refusal = 0 }
 accessNamed (NoAccess number) = record { kind = 0; offset = 0; value = 0; refusal = number }
 
--- ---- what came of it: of kind 0 the number that the bus brought; of any other, the refusal of the board
+-- ---- what came of it: of kind 0 the number that the bus brought; of kind 2 nothing; of any other, the refusal of the board
 abbrev pub busAnswer : BusNumbers → BusAnswer
-busAnswer n = if eqb (n .kind) 0 then bus.Number (n .number) else bus.Refused (n .refusal)
+busAnswer n = if eqb (n .kind) 0 then bus.Number (n .number) else if eqb (n .kind) 2 then bus.Nothing else bus.Refused (n .refusal)
 
 -- ---- what is handed over
 abbrev pub kindHanded : Handed → ℕ

@@ -3,7 +3,7 @@ ghost use mathlib.Core.Path.{_≡_};
 ghost use lib.ListN.{length};
 ghost use Rattle.collector_records.specs.Records.{startOf};
 ghost use Rattle.collector_phases.specs.Accesses.{accessOf};
-ghost use Rattle.collector_replies.specs.Reply.{told};
+ghost use Rattle.collector_replies.specs.Reply.{replied};
 ghost use Rattle.collector.specs.Handed.{handedRefusal};
 ghost use Rattle.samples.specs.Scans.{wholeScans};
 ghost use Rattle.numbers_collector.specs.Collecting.{noCollector, startAnswer, accessNamed, busAnswer, sampleHanded, kindHanded, takenAnswer};
@@ -32,7 +32,7 @@ pub struct AccessNamed {
     pub refusal: u8,
 }
 
-// What came of an access: 0 the number that the bus brought; any other kind is a refusal of the board.
+// What came of an access: 0 the number that the bus brought, 2 nothing; any other kind is a refusal of the board.
 #[repr(C)]
 pub struct BusNumbers {
     pub number: u16,
@@ -193,6 +193,8 @@ fn bus_answer(brought: BusNumbers) -> BusAnswer
 {
     if brought.kind == 0 {
         BusAnswer::Number(brought.number)
+    } else if brought.kind == 2 {
+        BusAnswer::Nothing
     } else {
         BusAnswer::Refused(brought.refusal)
     }
@@ -200,7 +202,7 @@ fn bus_answer(brought: BusNumbers) -> BusAnswer
 
 // Takes what came of that access.
 pub fn take(c: Collector, brought: BusNumbers) -> TakenAnswer
-    ensures { λ r. ⌜ r ≡ takenAnswer (told c (busAnswer brought)) ⌝ }
+    ensures { λ r. ⌜ r ≡ takenAnswer (replied c (busAnswer brought)) ⌝ }
 {
     in_numbers(collector::take_answer(c, bus_answer(brought)))
 }

@@ -6,7 +6,7 @@ use Prim.Native.Nat.{ℕ, _+_, _≤_}
 use native.Mathlib.Omega.{arith}
 use lib.ListN.{length, length-append}
 use Rattle.board_events.specs.declared.Answer.{Answer}
-use Rattle.board_events.specs.declared.Answer.the-variants.{Done, Byte, Word, Refused}
+use Rattle.board_events.specs.declared.Answer.the-variants.{Done, Byte, Word, Nothing, Refused}
 use Rattle.session_text.specs.Text.{Wrote, decimalText}
 use Rattle.session_text.proofs.Writing.{decimal-length}
 use Rattle.session_answers.specs.Answers.{answerText, irqText, refusedText, newline, eventText, badText}
@@ -23,6 +23,7 @@ unfolding answerText
 answer-length Done = omega arith
 answer-length (Byte v) = omega arith
 answer-length (Word v) = omega arith
+answer-length Nothing = omega arith
 answer-length (Refused n) = rw (length-append refusedText (decimalText n)) (let h = decimal-length n in omega arith)
 
 pub event-length : (number : ℕ) (answer : Answer) (raised : Bool) → length (eventText number answer raised) ≤ 64

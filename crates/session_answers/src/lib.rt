@@ -37,6 +37,7 @@ fn put_answer(answer: Answer, out: &mut [u8], at: usize) -> usize
         Answer::Done => session_text::copy(b" ok", out, at),
         Answer::Byte(v) => put_byte_answer(v, out, at),
         Answer::Word(v) => put_word_answer(v, out, at),
+        Answer::Nothing => session_text::copy(b" empty", out, at),
         Answer::Refused(n) => put_refusal(n, out, at),
     }
 }

@@ -25,9 +25,11 @@ fn perform(board: &mut Board, memory: &mut [u16], eeprom: &mut [u8], event: &Eve
         Event::WriteByte { offset, value } => board.write_byte(memory, offset, value),
         Event::ReadByte { offset } => return Answer::Byte(board.read_byte(memory, offset)),
         Event::ReadWord { .. } => {
+            let empty = board.fifo.held == 0;
             let low = board.read_byte(memory, 0);
             let high = board.read_byte(memory, 1);
-            return Answer::Word(u16::from_le_bytes([low, high]));
+            let word = u16::from_le_bytes([low, high]);
+            return if empty { Answer::Nothing } else { Answer::Word(word) };
         }
         Event::ConversionEnd { code } => board.conversion_end(memory, code),
         Event::Din { lines } => board.din_pins(lines as u8),

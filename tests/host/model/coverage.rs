@@ -3,16 +3,21 @@
 use crate::compare::Outcome;
 use crate::counter::Mode;
 use crate::damage::Damages;
-use crate::event::Event;
+use crate::event::{refusal, Answer, Event};
 use crate::pages::{commands_in, transfer_of, NO_TRANSFER};
 use crate::record::Board;
 use crate::step::Step;
 use std::collections::BTreeMap;
 
 /// What a run must reach besides the refusals and the damaged fields.
-const MUST_BE_REACHED: [&str; 44] = [
+const MUST_BE_REACHED: [&str; 49] = [
     "512 held",
     "OVF set",
+    "word read of an empty memory",
+    "word read of an empty memory during a conversion",
+    "word read of a sample of FFFF",
+    "word read of the last sample, FFFF",
+    "word read elsewhere of an empty memory",
     "an end in mid-scan",
     "low above high at a conversion",
     "EEPROM read begun, with key",
@@ -79,6 +84,7 @@ impl Coverage {
     pub fn count(&mut self, step: &Step, outcome: &Outcome, after: &Board) {
         self.events += 1;
         let before = &outcome.before;
+        self.reach_words(&step.event, before, outcome.answer);
         if outcome.answer >> 29 == 3 {
             let refusal = outcome.answer >> 24 & 31;
             self.refusals[refusal as usize] += 1;
@@ -106,6 +112,23 @@ impl Coverage {
             debug_assert!(commands_in(*value) == 1 && before.calibration.key == 0);
             self.reach("EEPROM read refused, without key", transfer_of(*value) == 1);
             self.reach("EEPROM write refused, without key", transfer_of(*value) == 2);
+        }
+    }
+
+    fn reach_words(&mut self, event: &Event, before: &Board, answer: u32) {
+        if let Event::ReadWord { offset } = *event {
+            let empty = before.fifo.held == 0;
+            let nothing = answer == Answer::Nothing.number();
+            debug_assert!(!nothing || empty);
+            let converts = before.converter.converting == 1;
+            self.reach("word read of an empty memory", nothing);
+            self.reach("word read of an empty memory during a conversion", nothing && converts);
+            let all_ones = answer == Answer::Word(0xFFFF).number();
+            let last = all_ones && before.fifo.held == 1;
+            self.reach("word read of a sample of FFFF", all_ones);
+            self.reach("word read of the last sample, FFFF", last);
+            let refused = answer == Answer::Refused(refusal::OFFSET).number();
+            self.reach("word read elsewhere of an empty memory", refused && empty && offset != 0);
         }
     }
 

@@ -48,18 +48,21 @@ pub enum Answer {
     Ticks(u16),
     Byte(u8),
     Word(u16),
+    /// A word read that finds no sample.
+    Nothing,
     Refused(u8),
 }
 
 impl Answer {
     /// The one number of the C header: kind in bits 31-29, refusal in 28-24, what was read in 15-0;
-    /// there also the ticks that were done.
+    /// there also the ticks that were done, and what the bus shows where nothing was there: FFFF.
     pub fn number(self) -> u32 {
         match self {
             Answer::Done => 0,
             Answer::Ticks(done) => u32::from(done),
             Answer::Byte(byte) => 1 << 29 | u32::from(byte),
             Answer::Word(word) => 2 << 29 | u32::from(word),
+            Answer::Nothing => 4 << 29 | 0xFFFF,
             Answer::Refused(number) => 3 << 29 | u32::from(number) << 24,
         }
     }
@@ -75,6 +78,7 @@ pub fn answer_text(number: u32) -> String {
         (true, 1, 0) if read < 256 => format!("byte {read:02X}"),
         (true, 2, 0) => format!("word {read:04X}"),
         (true, 3, _) if read == 0 => format!("refused {refusal}"),
+        (true, 4, 0) if read == 0xFFFF => "nothing".to_string(),
         _ => format!("no answer of the header: {number:08X}"),
     }
 }

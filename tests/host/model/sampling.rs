@@ -51,7 +51,7 @@ impl Board {
         self.requests.flags.adint |= self.requests.adinte & u8::from(due);
     }
 
-    /// The oldest sample; FFFF where none is held.
+    /// The oldest sample as the byte reads show it: FFFF where none is held.
     pub fn oldest(&self, memory: &[u16]) -> u16 {
         if self.fifo.held == 0 {
             0xFFFF

@@ -86,8 +86,10 @@ impl User<'_> {
         }
     }
 
+    /// A code, often -1: a sample that reads FFFF.
     fn conversion_end(&mut self) -> Event {
-        Event::ConversionEnd { code: self.random.word() as i16 }
+        let code = if self.random.once_in(16) { -1 } else { self.random.word() as i16 };
+        Event::ConversionEnd { code }
     }
 
     /// What begins a conversion under the present clock setting, or leads towards it.

@@ -12,8 +12,10 @@ bus-answer-spec =
     (λ c. search needs)
     (λ c. search needs)
     (λ c. search needs)
+    (λ c. search needs)
     (λ c. simp (c .enum-told .given .1))
     (λ c. simp (c .before .answer .given .1))
     (λ c. simp (c .before .answer2 .given .1))
+    (λ c. simp (c .enum-told2 .given .1))
     (λ c. simp (c .before .answer3 .given .1))
     in tie.close met

@@ -8,10 +8,6 @@ hand-over-spec =
     let met =
     tie.spec
     (λ c κs. search needs)
-    (λ c. search needs)
     (λ c κs. search needs)
-    (λ c. search needs)
-    (λ c κs. search needs)
-    (λ c. simp (c .with-answer .ensures, rw (c .before .before .before .before .bus-answer .ensures) at (c .before .before .number .given .1)))
-    (λ c. simp (c .without-answer .ensures, rw (c .before .before .before .before .bus-answer .ensures) at (c .before .before .number2 .given .1)))
+    (λ c. rw (c .before .take-answer .ensures, c .before .before .bus-answer .ensures))
     in tie.close met

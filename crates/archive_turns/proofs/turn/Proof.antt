@@ -18,7 +18,7 @@ returns-2 : tie.Need-returns-2
 returns-2 c =
     arms.unmade _ _ _ _ _ _
     (rw (c .before .before .before .before .event-of .ensures, c .before .before .before .before .before .access-of .ensures) at
-    (c .before .before .number .given .1)) (c .without-answer .ensures)
+    (c .before .before .number .given .1)) (c .without-access .ensures)
 
 pub turn-spec : {M : Type 1} → statement M
 turn-spec =

@@ -1,7 +1,7 @@
 -- `board_reads::read_byte` meets its contract, by a law for each way out. Assumes nothing. Written by tools/ways.py.
 use borrow.Author.Needs.{needs}
-use mathlib.Core.Path.{refl, ap}
-use Prim.Native.Nat.{ℕ, _/_, _%_}
+use mathlib.Core.Path.{refl, ap, _∙_}
+use Rattle.fifo.specs.Samples.{lowByteOf, highByteOf}
 use Rattle.bus.specs.Registers.{readChecks, byteAt, afterRead, readEffect}
 use Rattle.board_reads.proofs.Arms as arms
 use native.Mathlib.Omega.{arith}
@@ -19,11 +19,11 @@ oldest-requires-2 c κs = ways.works (c .before .before .before .before .before 
 
 pop-requires : tie.Need-pop-requires
 pop-requires c κs =
-    ways.works (c .before .before .before .before .before .before .before .is-working .ensures)
-    (c .before .before .before .before .before .before .if2 .left) .fifo
+    ways.works (c .before .before .before .before .before .before .before .before .is-working .ensures)
+    (c .before .before .before .before .before .before .before .if2 .left) .fifo
 
-add-t41 : tie.Need-add-t41
-add-t41 c =
+add-t39 : tie.Need-add-t39
+add-t39 c =
     omega (
       arith,
       c .mode-bits .ensures,
@@ -33,8 +33,8 @@ add-t41 c =
       flags-fit (c .before .before .before .before .before .before .before .before .before .before .before .args .board .fifo),
     )
 
-add-t43 : tie.Need-add-t43
-add-t43 c =
+add-t41 : tie.Need-add-t41
+add-t41 c =
     omega (
       arith,
       c .before .mode-bits .ensures,
@@ -60,27 +60,30 @@ returns-2 c =
 returns-3 : tie.Need-returns-3
 unfolding readChecks readEffect byteAt afterRead
 returns-3 c =
-    arms.read-kept (c .before .before .before .before .before .before .before .before .before .before .before .args .board)
-    (c .before .before .before .before .before .before .before .before .before .before .before .args .memory .now)
-    (c .before .before .before .before .before .before .before .before .before .before .before .args .eeprom .now)
-    (c .before .before .before .before .before .before .before .before .before .before .before .args .offset)
-    (ways.opened (c .before .before .before .before .before .before .before .before .if1 .left)
-    (c .before .before .before .before .before .before .is-working .ensures) (c .before .before .before .before .before .if2 .left))
-    (c .before .before .before .before .find .ensures) (c .before .before .enum-told .given .1) refl refl refl refl
-    (ap (λ (z : ℕ). z % 256) (c .oldest .ensures))
+    arms.read-kept (c .before .before .before .before .before .before .before .before .before .before .before .before .args .board)
+    (c .before .before .before .before .before .before .before .before .before .before .before .before .args .memory .now)
+    (c .before .before .before .before .before .before .before .before .before .before .before .before .args .eeprom .now)
+    (c .before .before .before .before .before .before .before .before .before .before .before .before .args .offset)
+    (ways.opened (c .before .before .before .before .before .before .before .before .before .if1 .left)
+    (c .before .before .before .before .before .before .before .is-working .ensures) (c .before .before .before .before .before .before .if2 .left))
+    (c .before .before .before .before .before .find .ensures) (c .before .before .before .enum-told .given .1) refl refl refl refl
+    (c .low-byte .ensures ∙ ap lowByteOf (c .before .oldest .ensures))
 
 returns-4 : tie.Need-returns-4
 unfolding readChecks readEffect byteAt afterRead
 returns-4 c =
-    arms.read-taken (c .before .before .before .before .before .before .before .before .before .before .before .before .before .before .before .args .board)
-    (c .before .before .before .before .before .before .before .before .before .before .before .before .before .before .before .args .memory .now)
-    (c .before .before .before .before .before .before .before .before .before .before .before .before .before .before .before .args .eeprom .now)
-    (c .before .before .before .before .before .before .before .before .before .before .before .before .before .before .before .args .offset)
-    (ways.opened (c .before .before .before .before .before .before .before .before .before .before .before .before .if1 .left)
-    (c .before .before .before .before .before .before .before .before .before .before .is-working .ensures)
-    (c .before .before .before .before .before .before .before .before .before .if2 .left))
-    (c .before .before .before .before .before .before .before .before .find .ensures) (c .before .before .before .before .before .before .enum-told2 .given .1)
-    refl refl refl (ap (λ (z : ℕ). z / 256) (c .before .before .before .before .oldest2 .ensures)) (c .before .before .pop .ensures)
+    arms.read-taken
+    (c .before .before .before .before .before .before .before .before .before .before .before .before .before .before .before .before .args .board)
+    (c .before .before .before .before .before .before .before .before .before .before .before .before .before .before .before .before .args .memory .now)
+    (c .before .before .before .before .before .before .before .before .before .before .before .before .before .before .before .before .args .eeprom .now)
+    (c .before .before .before .before .before .before .before .before .before .before .before .before .before .before .before .before .args .offset)
+    (ways.opened (c .before .before .before .before .before .before .before .before .before .before .before .before .before .if1 .left)
+    (c .before .before .before .before .before .before .before .before .before .before .before .is-working .ensures)
+    (c .before .before .before .before .before .before .before .before .before .before .if2 .left))
+    (c .before .before .before .before .before .before .before .before .before .find .ensures)
+    (c .before .before .before .before .before .before .before .enum-told2 .given .1) refl refl refl
+    (c .before .before .before .before .high-byte .ensures ∙ ap highByteOf (c .before .before .before .before .before .oldest2 .ensures))
+    (c .before .before .pop .ensures)
 
 returns-5 : tie.Need-returns-5
 unfolding readChecks readEffect byteAt afterRead
@@ -316,10 +319,10 @@ read-byte-spec =
     (λ c κs. search needs)
     (λ c. search needs)
     oldest-requires
-    (λ c. search needs)
+    (λ c κs. search needs)
     (λ c. search needs)
     oldest-requires-2
-    (λ c. search needs)
+    (λ c κs. search needs)
     pop-requires
     (λ c. search needs)
     (λ c. search needs)
@@ -332,8 +335,8 @@ read-byte-spec =
     (λ c. search needs)
     (λ c κs. search needs)
     (λ c κs. search needs)
+    add-t39
     add-t41
-    add-t43
     (λ c. search needs)
     (λ c κs. search needs)
     (λ c. search needs)

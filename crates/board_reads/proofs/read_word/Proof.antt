@@ -9,7 +9,9 @@ oldest-requires : tie.Need-oldest-requires
 oldest-requires c κs = ways.works (c .before .before .before .is-working .ensures) (c .before .before .if2 .left) .fifo
 
 pop-requires : tie.Need-pop-requires
-pop-requires c κs = ways.works (c .before .before .before .before .before .is-working .ensures) (c .before .before .before .before .if2 .left) .fifo
+pop-requires c κs =
+    ways.works (c .before .before .before .before .before .before .before .before .is-working .ensures)
+    (c .before .before .before .before .before .before .before .if2 .left) .fifo
 
 returns : tie.Need-returns
 returns c =
@@ -31,14 +33,26 @@ returns-3 c =
 
 returns-4 : tie.Need-returns-4
 returns-4 c =
-    arms.word (c .before .before .before .before .before .before .before .before .before .before .before .before .before .args .board)
-    (c .before .before .before .before .before .before .before .before .before .before .before .before .before .args .memory .now)
-    (c .before .before .before .before .before .before .before .before .before .before .before .before .before .args .eeprom .now)
-    (c .before .before .before .before .before .before .before .before .before .before .before .before .before .args .offset)
-    (ways.opened (c .before .before .before .before .before .before .before .before .before .before .if1 .left)
-    (c .before .before .before .before .before .before .before .before .is-working .ensures)
-    (c .before .before .before .before .before .before .before .if2 .left)) (c .before .before .before .before .before .before .if3 .left)
-    (c .before .before .before .before .oldest .ensures) (c .before .before .pop .ensures)
+    arms.word-nothing (c .before .before .before .before .before .before .before .before .before .before .before .args .board)
+    (c .before .before .before .before .before .before .before .before .before .before .before .args .memory .now)
+    (c .before .before .before .before .before .before .before .before .before .before .before .args .eeprom .now)
+    (c .before .before .before .before .before .before .before .before .before .before .before .args .offset)
+    (ways.opened (c .before .before .before .before .before .before .before .before .if1 .left)
+    (c .before .before .before .before .before .before .is-working .ensures) (c .before .before .before .before .before .if2 .left))
+    (c .before .before .before .before .if3 .left) (c .before .before .oldest .ensures) (c .enum-told .given .1)
+
+returns-5 : tie.Need-returns-5
+returns-5 c =
+    arms.word (c .before .before .before .before .before .before .before .before .before .before .before .before .before .before .before .before .args .board)
+    (c .before .before .before .before .before .before .before .before .before .before .before .before .before .before .before .before .args .memory .now)
+    (c .before .before .before .before .before .before .before .before .before .before .before .before .before .before .before .before .args .eeprom .now)
+    (c .before .before .before .before .before .before .before .before .before .before .before .before .before .before .before .before .args .offset)
+    (ways.opened (c .before .before .before .before .before .before .before .before .before .before .before .before .before .if1 .left)
+    (c .before .before .before .before .before .before .before .before .before .before .before .is-working .ensures)
+    (c .before .before .before .before .before .before .before .before .before .before .if2 .left))
+    (c .before .before .before .before .before .before .before .before .before .if3 .left)
+    (c .before .before .before .before .before .before .before .oldest .ensures) (c .before .before .before .before .before .sample .given .1)
+    (c .before .before .pop .ensures)
 
 pub read-word-spec : {M : Type 1} → statement M
 read-word-spec =
@@ -46,6 +60,8 @@ read-word-spec =
     tie.spec
     (λ c κs. search needs)
     oldest-requires
+    (λ c. search needs)
+    (λ c. search needs)
     pop-requires
     returns
     (λ c. search needs)
@@ -54,4 +70,6 @@ read-word-spec =
     returns-3
     (λ c. search needs)
     returns-4
+    (λ c. search needs)
+    returns-5
     in tie.close met

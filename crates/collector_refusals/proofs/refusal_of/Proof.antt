@@ -11,9 +11,10 @@ refusal-of-spec =
     (λ c. search needs)
     (λ c κs. search needs)
     (λ c. search needs)
+    (λ c κs. search needs)
     (λ c. search needs)
     (λ c. simp (c .enum-told .given .1))
     (λ c. simp (c .byte-refusal .ensures, c .before .before .x .given .1))
-    (λ c. simp (c .enum-told2 .given .1))
+    (λ c. simp (c .word-refusal .ensures, c .before .enum-told2 .given .1))
     (λ c. simp (c .enum-told3 .given .1))
     in tie.close met

@@ -2,15 +2,17 @@
 use borrow.Author.Needs.{needs}
 use Rattle.collector_replies.proofs.take_answer.Statement.{statement}
 use Rattle.collector_replies.proofs.take_answer.Tie as tie
+use Rattle.collector_replies.specs.Reply.{replied}
 
 pub take-answer-spec : {M : Type 1} → statement M
+unfolding replied
 take-answer-spec =
     let met =
     tie.spec
-    (λ c. search needs)
     (λ c κs. search needs)
-    (λ c. search needs)
     (λ c κs. search needs)
-    (λ c. simp (c .take-number .ensures, c .before .before .answer .given .1))
-    (λ c. simp (c .take-refusal .ensures, c .before .before .answer2 .given .1))
+    (λ c κs. simp (rw (c .before .before .is-fit .ensures) at (c .before .if1 .taken)))
+    (λ c κs. search needs)
+    (λ c. simp (c .reply .ensures, c .before .phase-of .ensures, rw (c .before .before .before .is-fit .ensures) at (c .before .before .if1 .taken)))
+    (λ c. simp (c .report .ensures, rw (c .before .before .is-fit .ensures) at (c .before .if1 .left)))
     in tie.close met

@@ -11,6 +11,7 @@ use borrow.Author.Tests.{lt-ltb, le-ltb, eq-eqb, ne-eqb}
 use Rattle.base.specs.Flags.{on}
 use Rattle.base.specs.Choice.{if_then_else_}
 use Rattle.fifo.specs.declared.Fifo.{Fifo}
+use Rattle.fifo.specs.declared.OldestSample.the-variants.{NoneHeld, Sample}
 use Rattle.fifo.specs.Samples.{oldestOf, pushed, popped}
 use Rattle.fifo.specs.Moves.{movedDown}
 use Rattle.fifo.specs.Queue.{queue, layout, emptyFifo, pushedTo, poppedFrom, Leaves, zeros, fifoTests, isWorkingFifo, WorkingFifo}
@@ -74,18 +75,26 @@ cleared m i l h k =
     let e : i ≡ 512 = omega arith in
     rw e (rw (drop-of-length-le m {i = 512} (omega arith)) (append-nil (replicate 512 0)))
 
-pub oldest-none : (f : Fifo) (m : List ℕ) → f .held ≡ 0 → 65535 ≡ oldestOf (queue f m)
+pub oldest-none : (f : Fifo) (m : List ℕ) → f .held ≡ 0 → NoneHeld ≡ oldestOf (queue f m)
 unfolding queue
 oldest-none f m h = rw h
 
-pub oldest-some : (f : Fifo) (m : List ℕ) → WorkingFifo f m → (f .held ≡ 0 → ⊥) → getD m 0 0 ≡ oldestOf (queue f m)
+pub oldest-some : (f : Fifo) (m : List ℕ) → WorkingFifo f m → (f .held ≡ 0 → ⊥) → Sample (getD m 0 0) ≡ oldestOf (queue f m)
 unfolding queue
 oldest-some f m w h = first (f .held) m (omega arith) (omega arith)
   where
-    first : (n : ℕ) (l : List ℕ) → 0 < n → 0 < length l → getD l 0 0 ≡ oldestOf (take n l)
+    first : (n : ℕ) (l : List ℕ) → 0 < n → 0 < length l → Sample (getD l 0 0) ≡ oldestOf (take n l)
     first zero l p q = absurd (omega arith)
     first (suc n) [] p q = absurd (omega arith)
     first (suc n) (x ∷ xs) p q = refl
+
+-- where a read finds none, none is held
+pub none-found : (f : Fifo) (m : List ℕ) → WorkingFifo f m → NoneHeld ≡ oldestOf (queue f m) → f .held ≡ 0
+none-found f m w e = sym (length-queue f m w) ∙ none (queue f m) e
+  where
+    none : (q : List ℕ) → NoneHeld ≡ oldestOf q → length q ≡ 0
+    none [] h = refl
+    none (x ∷ q) h = cc
 
 -- whether the memory works, where it has its places and holds no more than those, and where not
 pub tested : (f : Fifo) (m : List ℕ) → eqb (length m) 512 && leb (f .held) 512 ≡ true

@@ -8,5 +8,6 @@ bus-answer-spec =
     let met =
     tie.spec
     (λ c. simp (eq-eqb _ _ (c .if1 .taken)))
-    (λ c. simp (ne-eqb _ _ (c .if1 .left)))
+    (λ c. simp (eq-eqb _ _ (c .if2 .taken), ne-eqb _ _ (c .before .before .if1 .left)))
+    (λ c. simp (ne-eqb _ _ (c .if2 .left), ne-eqb _ _ (c .before .before .if1 .left)))
     in tie.close met

@@ -17,6 +17,9 @@ put-answer-spec =
     (λ c. search needs)
     (λ c κs. search needs)
     (λ c. search needs)
+    (λ c. search needs)
+    (λ c κs. search needs)
+    (λ c. search needs)
     (λ c κs. search needs)
     (λ c. search needs)
     (λ c. rw (c .before .before .before .before .before .enum-told .given .1) (c .before .before .copy .ensures))
@@ -24,6 +27,8 @@ put-answer-spec =
     (λ c. rw (c .before .before .before .before .before .answer .given .1) (c .before .before .put-byte-answer .ensures))
     (λ c. search needs)
     (λ c. rw (c .before .before .before .before .before .answer2 .given .1) (c .before .before .put-word-answer .ensures))
+    (λ c. search needs)
+    (λ c. rw (c .before .before .before .before .before .enum-told2 .given .1) (c .before .before .copy2 .ensures))
     (λ c. search needs)
     (λ c. rw (c .before .before .before .before .before .answer3 .given .1) (c .before .before .put-refusal .ensures))
     in tie.close met

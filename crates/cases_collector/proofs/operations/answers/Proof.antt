@@ -57,6 +57,9 @@ text-requires-2 c κs = search needs
 decimal-requires-2 : tie.Need-decimal-requires-2 Inv-loop μ-loop
 decimal-requires-2 c κs = search needs
 
+word-requires-2 : tie.Need-word-requires-2 Inv-loop μ-loop
+word-requires-2 c κs = search needs
+
 answer-requires : tie.Need-answer-requires Inv-loop μ-loop
 answer-requires c κs = search needs
 
@@ -85,6 +88,7 @@ answers-spec =
     slice-aggregate-text-2
     text-requires-2
     decimal-requires-2
+    word-requires-2
     answer-requires
     returns
     in tie.close met
