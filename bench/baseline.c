@@ -44,7 +44,7 @@ enum { NO_TRANSFER, EEPROM_READ, EEPROM_WRITE, RUNCAL, TRIMDAC };
 static const struct dmm32_board clear = {
     .converter = {0xE0, 0xE0, 0xE0, 0xE0, NO_FLAG, NO_FLAG, NO_FLAG},
     .requests = {0, NO_FLAG, NO_FLAG, NO_FLAG, NO_FLAG, NO_FLAG, {NO_FLAG, NO_FLAG, NO_FLAG}},
-    .fifo = {0xFC00, 0xFFFE},
+    .fifo = {0xFC00, 0xFE00, 0xFFFE},
     .registers = {.page = 0xFC, .dout = 0xF8, .range = 0xF0},
     .outputs = {.codes = {0xF000, 0xF000, 0xF000, 0xF000}, .load = {NO_FLAG, 0xFC, 0xF000}, .busy = 0x80},
     .clocks = {.timer = {CLEAR_COUNTER, CLEAR_COUNTER, CLEAR_COUNTER}},
@@ -67,7 +67,7 @@ static uint64_t not_clear(const struct dmm32_board *b)
 #define AT(field) (eight(b, offsetof(struct dmm32_board, field)) & eight(&clear, offsetof(struct dmm32_board, field)))
     const struct dmm32_timer *t = &b->clocks.timer;
     const struct dmm32_counter *c = &clear.clocks.timer.counter0;
-    return AT(converter) | AT(requests.fifoen) | AT(fifo) | AT(outputs.codes) | AT(outputs.load) | AT(calibration.address) | AT(calibration.trim[4])
+    return AT(converter) | AT(requests.fifoen) | AT(fifo) | AT(registers.counting) | AT(outputs.codes.out3) | AT(calibration.address) | AT(calibration.trim[4])
         | ((eight(&t->counter0, 0) | eight(&t->counter1, 0) | eight(&t->counter2, 0)) & eight(c, 0))
         | ((eight(&t->counter0, 8) | eight(&t->counter1, 8) | eight(&t->counter2, 8)) & eight(c, 8));
 #undef AT
@@ -84,7 +84,7 @@ static bool counter_works(const struct dmm32_counter *c)
 static bool record_works(const struct dmm32_board *b)
 {
     return not_clear(b) == 0
-        && b->fifo.held <= PLACES && (!b->fifo.ovf || b->fifo.held == PLACES)
+        && b->fifo.held <= PLACES && (!b->fifo.ovf || b->fifo.held == PLACES) && (b->fifo.held || !b->fifo.place)
         && b->outputs.busy <= 100
         && counter_works(&b->clocks.timer.counter0) && counter_works(&b->clocks.timer.counter1) && counter_works(&b->clocks.timer.counter2)
         && b->clocks.hundred <= 99 && b->clocks.thousand <= 999
@@ -92,10 +92,20 @@ static bool record_works(const struct dmm32_board *b)
         && b->calibration.transfer <= TRIMDAC;
 }
 
-static bool free_places_are_zero(const uint16_t *memory, unsigned held)
+/* inline: a compiler that calls it, as gcc does with -O2, takes more instructions in every event */
+static inline bool are_zero(const uint16_t *places, unsigned count)
 {
     static const _Alignas(1024) uint16_t zeros[PLACES];      /* aligned: whether memcmp sees a page's end near depends on the samples' address alone */
-    return memcmp(memory + held, zeros, (PLACES - held) * sizeof *memory) == 0;
+    return memcmp(places, zeros, count * sizeof *places) == 0;
+}
+
+/* the places from the newest sample on, round to the oldest: one stretch or two */
+static inline bool free_places_are_zero(const uint16_t *memory, const struct dmm32_fifo *f)
+{
+    unsigned end = f->place + f->held;
+    if (end >= PLACES)
+        return are_zero(memory + (end - PLACES), PLACES - f->held);
+    return are_zero(memory + end, PLACES - end) && (f->place == 0 || are_zero(memory, f->place));
 }
 
 /* The number by which any event is refused, or 0. */
@@ -103,7 +113,7 @@ static unsigned refusal(const struct dmm32_board *b, const uint16_t *memory, siz
 {
     if (memory_length != PLACES || eeprom_length != EEPROM_BYTES)
         return COWRIESTEP_REFUSED_LENGTH;
-    if (!record_works(b) || !free_places_are_zero(memory, b->fifo.held))
+    if (!record_works(b) || !free_places_are_zero(memory, &b->fifo))
         return COWRIESTEP_REFUSED_RECORD;
     return 0;
 }
@@ -120,14 +130,13 @@ static unsigned refusal(const struct dmm32_board *b, const uint16_t *memory, siz
 static void empty(struct dmm32_board *b, uint16_t *memory)
 {
     memset(memory, 0, PLACES * sizeof *memory);
-    b->fifo.held = 0;
-    b->fifo.ovf = 0;
+    b->fifo = (struct dmm32_fifo){0};
 }
 
 /* As the byte reads show it: all ones where there is none. */
 static uint16_t oldest(const struct dmm32_board *b, const uint16_t *memory)
 {
-    return b->fifo.held ? memory[0] : 0xFFFF;
+    return b->fifo.held ? memory[b->fifo.place] : 0xFFFF;
 }
 
 /* The oldest sample leaves, if there is one. */
@@ -135,10 +144,8 @@ static void take(struct dmm32_board *b, uint16_t *memory)
 {
     if (b->fifo.held == 0)
         return;
-    unsigned rest = b->fifo.held - 1u;
-    memmove(memory, memory + 1, rest * sizeof *memory);
-    memory[rest] = 0;
-    b->fifo.held = (uint16_t)rest;
+    memory[b->fifo.place] = 0;
+    b->fifo.place = --b->fifo.held ? (b->fifo.place + 1u) % PLACES : 0;
     b->fifo.ovf = 0;
 }
 
@@ -655,7 +662,7 @@ uint32_t BASELINE(read_word)(struct dmm32_board *b, uint16_t *memory, size_t mem
         return REFUSED(COWRIESTEP_REFUSED_OFFSET);
     if (b->fifo.held == 0)
         return NOTHING;
-    uint16_t sample = memory[0];
+    uint16_t sample = memory[b->fifo.place];
     take(b, memory);
     return WORD(sample);
 }
@@ -670,7 +677,7 @@ uint32_t BASELINE(conversion_end)(struct dmm32_board *b, uint16_t *memory, size_
     if (!c->converting)
         return REFUSED(COWRIESTEP_REFUSED_NO_CONVERSION);
     if (b->fifo.held < PLACES)
-        memory[b->fifo.held++] = (uint16_t)code;
+        memory[(b->fifo.place + b->fifo.held++) % PLACES] = (uint16_t)code;
     else
         b->fifo.ovf = 1;
     if (c->scanen && c->channel != c->high) {
@@ -837,5 +844,5 @@ uint32_t BASELINE(fresh_stores)(uint16_t *memory, size_t memory_length, uint8_t 
 
 bool BASELINE(is_working)(struct dmm32_board board, const uint16_t *memory, size_t memory_length)
 {
-    return memory_length == PLACES && record_works(&board) && free_places_are_zero(memory, board.fifo.held);
+    return memory_length == PLACES && record_works(&board) && free_places_are_zero(memory, &board.fifo);
 }

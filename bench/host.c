@@ -85,15 +85,26 @@ static void fresh(struct state *s)
     write_to(s, 9, 0x80);
 }
 
-static void hold(struct state *s, unsigned held)
+static void convert(struct state *s, unsigned code)
+{
+    write_to(s, 0, 0);
+    dmm32_conversion_end(STORES(s), (int16_t)code);
+}
+
+/* `held` samples, the oldest at this place, with the codes from 1000 + place on: as many as come before it are stored and read, one always held, since the place
+   goes back to 0 with the last. */
+static void hold_from(struct state *s, unsigned place, unsigned held)
 {
     fresh(s);
-    for (unsigned i = 0; i < held; i++) {
-        write_to(s, 0, 0);
-        dmm32_conversion_end(STORES(s), (int16_t)(1000 + i));
+    for (unsigned i = 0; held && i < place + held; i++) {
+        convert(s, 1000 + i);
+        if (i > 0 && i <= place)
+            dmm32_read_word(STORES(s), 0);
     }
     write_to(s, 8, 0x08);
 }
+
+static void hold(struct state *s, unsigned held) { hold_from(s, 0, held); }
 
 /* Counters 1 and 2 in mode 2 as the internal clock, each with the count 10, ticked until their counts stand at these. */
 static void cascade(struct state *s, unsigned first, unsigned second)
@@ -120,6 +131,8 @@ static void set_empty(struct state *s) { hold(s, 0); }
 static void set_1(struct state *s) { hold(s, 1); }
 static void set_256(struct state *s) { hold(s, 256); }
 static void set_511(struct state *s) { hold(s, 511); }
+static void set_256_middle(struct state *s) { hold_from(s, 128, 256); }
+static void set_256_round(struct state *s) { hold_from(s, 384, 256); }
 static void set_converting_0(struct state *s) { hold(s, 0); write_to(s, 0, 0); }
 static void set_converting_511(struct state *s) { hold(s, 511); write_to(s, 0, 0); }
 static void set_counting(struct state *s) { cascade(s, 5, 5); }
@@ -138,6 +151,8 @@ static void set_damaged(struct state *s) { hold(s, 0); s->memory[PLACES - 1] = 1
     X(event_word_at_1, set_1, read_word(STORES(s), 0), 0x400003E8, "word read: 1 held")                                                           \
     X(event_word_at_256, set_256, read_word(STORES(s), 0), 0x400003E8, "word read: 256 held")                                                     \
     X(event_word_at_511, set_511, read_word(STORES(s), 0), 0x400003E8, "word read: 511 held")                                                     \
+    X(event_word_middle, set_256_middle, read_word(STORES(s), 0), 0x40000468, "word read: 256 held, from place 128 on")                                \
+    X(event_word_round, set_256_round, read_word(STORES(s), 0), 0x40000568, "word read: 256 held, round the end")                                     \
     X(event_end_at_0, set_converting_0, conversion_end(STORES(s), -7), 0, "conversion end: 0 held")                                               \
     X(event_end_at_511, set_converting_511, conversion_end(STORES(s), -7), 0, "conversion end: 511 held")                                         \
     X(event_tick, set_counting, tick(STORES(s)), 0, "tick: counter 1 counts")                                                                     \
@@ -300,7 +315,7 @@ static void measure_spans(unsigned long times, unsigned long most)
 #define FIELDS(X)                                                                                                                                 \
     X(converter.low, 31) X(converter.high, 31) X(converter.selected, 31) X(converter.channel, 31) X(converter.converting, 1) X(converter.scanen, 1)  \
     X(converter.clken, 1) X(requests.threshold, 255) X(requests.fifoen, 1) X(requests.clksel, 1) X(requests.adinte, 1) X(requests.dinte, 1)          \
-    X(requests.tinte, 1) X(requests.flags.adint, 1) X(requests.flags.dint, 1) X(requests.flags.tint, 1) X(fifo.held, 512) X(fifo.ovf, 1)             \
+    X(requests.tinte, 1) X(requests.flags.adint, 1) X(requests.flags.dint, 1) X(requests.flags.tint, 1) X(fifo.held, 512) X(fifo.place, 511) X(fifo.ovf, 1)             \
     X(registers.page, 3) X(registers.dout, 7) X(registers.counting, 255) X(registers.range, 15) X(outputs.codes.out0, 4095)                       \
     X(outputs.codes.out1, 4095) X(outputs.codes.out2, 4095) X(outputs.codes.out3, 4095) X(outputs.load.loaded, 1) X(outputs.load.channel, 3)      \
     X(outputs.load.code, 4095) X(outputs.lsb, 255) X(outputs.busy, 100) COUNTER(X, counter0) COUNTER(X, counter1) COUNTER(X, counter2)            \
@@ -449,8 +464,10 @@ static void random_board(struct state *s)
         s->board.outputs.busy = (uint8_t)below(3);
     if (below(2))
         s->board.clocks.hundred = 98, s->board.clocks.thousand = 997;
+    if (s->board.fifo.held == 0)
+        s->board.fifo.place = 0;
     for (unsigned i = 0; i < PLACES; i++)
-        s->memory[i] = i < s->board.fifo.held ? (uint16_t)below(65536) : 0;
+        s->memory[(s->board.fifo.place + i) % PLACES] = i < s->board.fifo.held ? (uint16_t)below(65536) : 0;
     for (unsigned i = 0; i < EEPROM_BYTES; i++)
         s->eeprom[i] = (uint8_t)below(256);
 }

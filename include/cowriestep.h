@@ -127,9 +127,13 @@ struct dmm32_requests {
     struct dmm32_flags flags;
 };
 
-/* the sample memory's state (manual 11.2). The samples held are the first `held` numbers of the memory, oldest first [the other numbers are 0] */
+/*
+ * The sample memory's state (manual 11.2). The memory is a circle: place 0 follows place 511. The samples held are `held` numbers from place `place` on, oldest
+ * first, round the circle [the other numbers are 0]: sample i, counted from 0, is memory[(place + i) % 512].
+ */
 struct dmm32_fifo {
     uint16_t held;                           /* samples held [0-512] */
+    uint16_t place;                          /* the place of the oldest sample [0-511; 0 where none is held] */
     uint16_t ovf;                            /* OVF: a sample was lost [flag; set only at 512 held] */
 };
 

@@ -1,11 +1,11 @@
 #!/usr/bin/env python3
 """Writes the proofs of the thin functions over a lent board, in crates/lent, cowriestep and cowriestep_turn: for each, proofs/NAME/Proof.antt, and for each
-crate what its functions share: proofs/Lending.antt for those of an event, Advancing.antt for that of many ticks, Driving.antt for a collector's turn. Run it in the repository's root after a change to these functions or to the record. It reads the
+crate what its functions share: proofs/Lending.antt for those of an event, Storing.antt for those that store one part of the record alone, Advancing.antt for that of many ticks, Driving.antt for a collector's turn. Run it in the repository's root after a change to these functions or to the record. It reads the
 functions, their parameters, callees and events, and where the answer lies behind the record, from the crates' sources; the events' cases and what a step
 does are not in it.
 
 All these functions have one shape. NAME(board: &mut Board, memory: &mut [u16], eeprom: &mut [u8], parameters..) calls CALLEE(*board, memory, eeprom, ..),
-which makes the step, or many ticks, by value, and stores what comes back. It passes its parameters on, after a variant of an enum or not. Those of cowriestep test the
+which makes the step, or many ticks, by value, and stores what comes back: `*board = out.board`, or one part of it, `board.PART = out.PART`. It passes its parameters on, after a variant of an enum or not. Those of cowriestep test the
 lengths of the memories first and answer refusal 2 at once. A function's locals, in order:
 
     0 the answer   1 board   2 memory   3 eeprom   the parameters   what CALLEE returns
@@ -24,17 +24,20 @@ from walk.terms import chained, listed, loaded, local, paired
 from walk.text import filled
 
 # Thin functions of a crate that share a file: the record that their contracts name, what their callees return, which field of it is the answer, and what they
-# promise of it and of the memories, by `ev` of a type.
-Family = namedtuple('Family', 'crate lending contract outcome answer promise event memory eeprom')
+# promise of it and of the memories, by `ev` of a type. Where they store a part of the record alone: which, the law that the record with that part anew is the
+# step's, and what is refused by 2 in their callees' form, with its law.
+Family = namedtuple('Family', 'crate lending contract outcome answer promise event memory eeprom part law refused lengths_tested', defaults=('', '', 'refused2', 'lengths-tested'))
 LENT = '(x .now) (m .now) (e .now) ev'
 EVENT = ('Event', f'memoryAfter {LENT}', f'eepromAfter {LENT}')
 TICKS = ('ℕ', 'm .now', 'e .now')
+WORD = ('fifo', 'word-read-keeps', 'refusedWord2', 'word-lengths-tested')
 TURNED = 'lentTurn ev (x .now) (m .now) (e .now)'
 TURN = ('Collector', f'{TURNED} .board .memory', f'{TURNED} .board .eeprom')
 FAMILIES = [
     Family('lent', 'Lending', 'Stepped', 'Outcome', 'answer', f'stepOf {LENT}', *EVENT),
     Family('lent', 'Advancing', 'Moved', 'Advanced', 'progress', f'advancedOf {LENT}', *TICKS),
     Family('cowriestep', 'Lending', 'Stepped', 'Numbered', 'number', f'numberedOf (stepOf {LENT})', *EVENT),
+    Family('cowriestep', 'Storing', 'Stepped', 'WordNumbered', 'number', f'wordNumbered (stepOf {LENT})', *EVENT, *WORD),
     Family('cowriestep', 'Advancing', 'Moved', 'AdvancedNumbered', 'progress', f'advancedNumbered (advancedOf {LENT})', *TICKS),
     Family('cowriestep_turn', 'Driving', 'Driven', 'TurnNumbered', 'taken', f'turnNumbered (turnedIn ({TURNED}))', *TURN),
 ]
@@ -55,6 +58,33 @@ def of_family(family, types):
         answer_laws=answer.laws if made else '', answer_row=answer.row, answer_makes=answer.makes, answer_value=f'({value})',
         answer_type='N′.mir' if made else 'numTy', answer_local='N′.mir' if made else 'S.numTy', answer_is=f'Is {answer.row} (r .{family.answer}) ({value} ∷ [])',
         answer_typed=f'{answer.laws}.lawful {answer.both} 𝓤 H A W {answer.tag}.typed (r .{family.answer}) _ is .0' if made else '(tt, record { fits = is .1 })')
+
+
+def stored(part, r='r'):
+    """The record once r is stored: the whole, or the part of it."""
+    return f'with{part.capitalize()} (x .now) ({r} .{part})' if part else f'{r} .board'
+
+
+def of_part(family, types):
+    """What both texts say of what is stored."""
+    part = family.part
+    said = dict(part=part, stored=stored(part), stored_of_y=stored(part, 'y'), refused=family.refused, lengths_tested=family.lengths_tested)
+    if not part:
+        said.update(dict.fromkeys('part_type part_place part_at part_step part_used part_laws_used parts_anew with_part with_used was was_asked'.split(), ''))
+        said.update(first='board', first_type='Boardᴸ.mir', first_value='bval', stored_words='board', closed_words='board that came back', closing='fields .0')
+        return dict(said, to_place='(stop t)', store='store-raw t 4 {τ = Boardᴸ.mir} {v = bval (r .board)} refl')
+    kind, at = types.field('Board', part)
+    k, board, crate = types.place('Board', part), types.declared('Board').crate, 'Rattle·' + types.declared(kind).crate
+    lies = f'{{τ = Partᴸ.mir}} {{d = {at}}}'
+    anew = paired([f'was-in{" .1" * j} .0' for j in range(k)] + ['is'], f'was-in{" .1" * (k + 1)}')
+    said.update(
+        part_type=kind, part_place=k, part_at=at, part_step=f'field {k} ∷ ', part_used=f'use {crate}.specs.declared.{kind}.{{{kind}}}',
+        part_laws_used=f'use {crate}.proofs.{kind} as Partᴿ\nuse {crate}.proofs.{kind}.Laws as Partᴸ',
+        parts_anew=anew, with_part='with' + part.capitalize(), with_used=f'use Rattle.{board}.specs.Parts.{{with{part.capitalize()}}}',
+        was=' was', was_asked='        → Was', first=part, first_type='Partᴸ.mir', first_value='pval', stored_words=f'part `{part}` of it', closing=f'made (r .{part}) was (fields .0)',
+        closed_words='board with the part that came back', to_place=f'(fld t {lies} in-board (stop t))',
+        store=f'store-part t 4 {k} Boardᴸ.mir {{τ = Partᴸ.mir}} {{τs = bTys}} {{vs = fieldVals (bval (x .now))}} {{d = {at}}} {{v₁ = bval ({stored(part)})}} refl board-fields (board-values (x .now)) part-field (part-anew (x .now) (r .{part}))')
+    return said
 
 
 def of_call(function, types):
@@ -105,7 +135,7 @@ def of_parameters(function, types):
         values='ptr ∷ sm ∷ se ∷ ' + ''.join(t.value(p) + ' ∷ ' for p, t in own) + '[]',
         values_apart=paired(['ptr ∷ []', 'sm ∷ []', 'se ∷ []'] + [t.value(p) + ' ∷ []' for p, t in own]),
         value_lists=chained(['List Val'] * (3 + len(own))),
-        lasts=paired(['r .board', 'zm', 'ze'] + ['tt'] * len(own)), lengths=paired(['tt', 'k .lm', 'k .le'] + ['tt'] * len(own)),
+        lasts=paired([stored(function.part), 'zm', 'ze'] + ['tt'] * len(own)), lengths=paired(['tt', 'k .lm', 'k .le'] + ['tt'] * len(own)),
         vals=paired(['ptr-vals', 'slice-vals', 'slice-vals'] + [t.vals for _, t in own]),
         tells=paired(lent['tells'] + [t.tells for _, t in own]),
         stay=paired(lent['stay'] + [f'stay-none (λ _. {t.row}) yes' for _, t in own]),
@@ -164,13 +194,14 @@ def write(path, text):
 def main():
     types, written = source.Types(), []
     for family in FAMILIES:
-        proofs, functions = f'crates/{family.crate}/proofs', source.thin_functions(family.crate, family.contract)
-        said = dict(of_family(family, types), tested=any(function.tested for function in functions))
+        proofs, functions = f'crates/{family.crate}/proofs', source.thin_functions(family.crate, family.contract, family.part)
+        said = dict(of_family(family, types), **of_part(family, types), tested=any(function.tested for function in functions))
         written.append(write(f'{proofs}/{family.lending}.antt', filled('lending.txt', said)))
         for function in functions:
             own = dict(name=function.name, kebab=function.name.replace('_', '-'), tested=function.tested)
             for of in (of_call, of_parameters, of_locals):
                 own.update(of(function, types))
+            own.update(by_law=f' ∙ {family.law} (x .now) (m .now) (e .now) {" ".join(p for p, _ in function.parameters)}' if family.part else '')
             written.append(write(f'{proofs}/{function.name}/Proof.antt', filled('proof.txt', {**said, **own})))
     columns.settle(written)
 

@@ -194,6 +194,7 @@ static void system_reset(void) {
     same("ticks", dmm32_advance(LENT, 1234).done, 1234);
     for (int i = 0; i < 3; i++) same("a trigger", WRITE(0, 0), 0), same("an end", dmm32_conversion_end(LENT, (int16_t)(100 + i)), 0);
     same("a trigger", WRITE(0, 0), 0);
+    same("the oldest of three samples", dmm32_read_word(LENT, 0), 0x40000064);
     same("an EEPROM read", WRITE(14, 0xC0), 0);
     same("Latch", dmm32_latch(LENT, 1), 0);
     same("pins of port B", dmm32_port_b_pins(LENT, 0xB2), 0);
@@ -205,7 +206,8 @@ static void system_reset(void) {
     same("the counter before", board.clocks.timer.counter0.count.loaded, 1);
     same("the dividers before", board.clocks.hundred == 34 && board.clocks.thousand == 234, 1);
     same("the TrimDAC before", board.calibration.trim[6], 0x5A);
-    same("held before", board.fifo.held, 3);
+    same("held before", board.fifo.held, 2);
+    same("the place of the oldest before", board.fifo.place, 1);
     same("RESETA", WRITE(8, 0x20), 0);
     same("the record after a system reset", memcmp(&board, &want, sizeof board), 0);
     for (unsigned i = 0; i < COWRIESTEP_MEMORY_LENGTH; i++) same("a number of the memory", memory[i], 0);

@@ -66,15 +66,14 @@ static void every_flag(struct lent *given, int any) {
 #undef EACH
 }
 
-/* a board in use: 512 held and OVF, a conversion, a running transfer, all counters programmed and counting */
+/* a board in use: 512 held from place 300 on and OVF, a conversion, a running transfer, all counters programmed and counting */
 static void used(struct lent *l) {
     static const uint8_t writes[][2] = { { 9, 0xE0 }, { 15, 0x34 }, { 12, 9 }, { 12, 0 }, { 15, 0x50 }, { 13, 5 }, { 15, 0xB0 }, { 14, 7 }, { 0, 0 }, { 8, 3 },
         { 14, 0x18 } };
     for (unsigned i = 0; i < sizeof writes / sizeof *writes; i++)
         expect("flags.c", "a write", dmm32_write_byte(LENT, writes[i][0], writes[i][1]), 0);
     for (unsigned i = 0; i < COWRIESTEP_MEMORY_LENGTH; i++) l->memory[i] = (uint16_t)(0xFFFF - i);
-    l->board.fifo.held = COWRIESTEP_MEMORY_LENGTH;
-    l->board.fifo.ovf = 1;
+    l->board.fifo = (struct dmm32_fifo){ .held = COWRIESTEP_MEMORY_LENGTH, .place = 300, .ovf = 1 };
     expect("flags.c", "a tick", dmm32_tick(LENT), 0);
 }
 

@@ -28,6 +28,7 @@ static void overflow(void) {
     for (unsigned i = 0; i < 512; i++)
         sample(i < 511 ? COWRIESTEP_HANDED_SAMPLE : COWRIESTEP_HANDED_LAST_SAMPLE, (uint8_t)(3 + (i + 2) % 3), (int16_t)(i * 127 - 32768));
     expect(HOST, "held after the drain", board.fifo.held, 0);
+    expect(HOST, "the place of the oldest after the drain", board.fifo.place, 0);
     expect(HOST, "polls of the next start", collector.polls, 0);
     turned = 1;
     start();
@@ -42,6 +43,14 @@ static void board_refusals(void) {
     struct dmm32_board kept = board;
     board.fifo.held = 513;
     answers("1", dmm32_din(LENT, 16), REFUSED(1));
+    expect(HOST, "working", dmm32_is_working(board, memory, 512), 0);
+    board = kept;
+    board.fifo.place = 512;
+    answers("1 with the oldest at place 512", dmm32_din(LENT, 16), REFUSED(1));
+    expect(HOST, "working", dmm32_is_working(board, memory, 512), 0);
+    board = dmm32_fresh(COWRIESTEP_JUMPERS_A, 0);
+    board.fifo.place = 5;
+    answers("1 with none held and place 5", dmm32_din(LENT, 16), REFUSED(1));
     expect(HOST, "working", dmm32_is_working(board, memory, 512), 0);
     board = dmm32_fresh(4, 0);
     answers("1 with jumpers 4", dmm32_tick(LENT), REFUSED(1));

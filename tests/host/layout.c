@@ -79,9 +79,52 @@ static void conversions(void) {
     board.fifo.held = want.fifo.held = 512;
     want.converter.channel = 18; want.converter.selected = 19; want.converter.converting = 1; put(0, 0);
     want.fifo.ovf = 1; want.converter.converting = 0; done(dmm32_conversion_end(LENT, 5));
-    want.fifo.ovf = 0; want.fifo.held = 511;
+    want.fifo.ovf = 0; want.fifo.held = 511; want.fifo.place = 1;
     expect("layout.c", "a word read", dmm32_read_word(LENT, 0), 0x40000007);
     same();
+}
+
+/* the numbers of the sample memory, as they are to be */
+static uint16_t places[COWRIESTEP_MEMORY_LENGTH];
+
+static void same_places(void) { expect("layout.c", "the sample memory", memcmp(memory, places, sizeof memory) != 0, 0); }
+
+/* a sample is stored at a place: channel 0, since low and high are 0 */
+static void store(uint16_t code, unsigned at) {
+    want.converter.converting = 1; put(0, 0);
+    want.converter.converting = 0; want.fifo.held++; places[at] = code; done(dmm32_conversion_end(LENT, (int16_t)code));
+    same_places();
+}
+
+/* the oldest sample is read, whole or by its high byte, and the next is at a place */
+static void leaves(int whole, uint16_t code, uint16_t next) {
+    places[want.fifo.place] = 0; want.fifo.held--; want.fifo.place = next;
+    if (whole) expect("layout.c", "a word read", dmm32_read_word(LENT, 0), 0x40000000 + code);
+    else expect("layout.c", "a high byte", dmm32_read_byte(LENT, 1), 0x20000000 + code / 256);
+    same();
+    same_places();
+}
+
+/* the place of the oldest sample: one on with each that leaves, from 511 to 0; 0 with the last, with FIFORST and with resets */
+static void circle(void) {
+    static const uint8_t resets[3][2] = { { 7, 0x02 }, { 8, 0x20 }, { 8, 0x10 } };
+    start(COWRIESTEP_JUMPERS_A, 0);
+    store(0x1111, 0); store(0x2222, 1);
+    leaves(1, 0x1111, 1);
+    store(0x3333, 2);
+    get(0, 0x22);
+    leaves(0, 0x2222, 2);
+    leaves(1, 0x3333, 0);
+    for (unsigned i = 0; i < 512; i++) store((uint16_t)(i + 0x4000), i);
+    for (unsigned i = 0; i < 510; i++) leaves(i % 2, (uint16_t)(i + 0x4000), (uint16_t)(i + 1));
+    for (unsigned i = 0; i < 3; i++) store((uint16_t)(i + 0x5000), i);
+    leaves(1, 0x41FE, 511); leaves(1, 0x41FF, 0); leaves(1, 0x5000, 1); leaves(0, 0x5001, 2); leaves(1, 0x5002, 0);
+    for (unsigned i = 0; i < 3; i++) {
+        store(0x6661, 0); store(0x6662, 1); store(0x6663, 2);
+        leaves(1, 0x6661, 1);
+        memset(places, 0, sizeof places); want.fifo = (struct dmm32_fifo){ 0, 0, 0 }; put(resets[i][0], resets[i][1]);
+        same_places();
+    }
 }
 
 /* one counter, its number, the offset of its count and the control word's SC, in mode 0 and then in mode 2; FREQ12 and FREQ0 are 0, so a tick is a clock */
@@ -195,6 +238,7 @@ static void collector(void) {
 
 int main(void) {
     conversions();
+    circle();
     timer();
     outputs();
     pages();

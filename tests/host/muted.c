@@ -22,7 +22,7 @@ static void lengths(const struct lent *given, int works) {
     if (!works) refused("1", given, COWRIESTEP_MEMORY_LENGTH, COWRIESTEP_EEPROM_LENGTH, COWRIESTEP_REFUSED_RECORD);
 }
 
-/* each flag that is none, each field that is beyond what a working board has, a free place that is not 0 */
+/* each flag that is none, each field that is beyond what a working board has, a free place that is not 0: first behind the newest, last before the oldest */
 static void damaged(const struct lent *given) {
     static struct lent l;
 #define DAMAGED(field, value)       \
@@ -33,14 +33,18 @@ static void damaged(const struct lent *given) {
     BOARD_FLAGS(FLAG)
 #undef FLAG
     DAMAGED(converter.low, 32) DAMAGED(converter.high, 32) DAMAGED(converter.selected, 32) DAMAGED(converter.channel, 32)
-    DAMAGED(fifo.held, 513) DAMAGED(registers.page, 4) DAMAGED(registers.dout, 8) DAMAGED(registers.range, 16)
+    DAMAGED(fifo.held, 513) DAMAGED(fifo.place, 512) DAMAGED(fifo.place, 65535) DAMAGED(fifo.place, 5) DAMAGED(registers.page, 4) DAMAGED(registers.dout, 8) DAMAGED(registers.range, 16)
     DAMAGED(outputs.codes.out3, 4096) DAMAGED(outputs.load.channel, 4) DAMAGED(outputs.load.code, 4096) DAMAGED(outputs.busy, 101)
     DAMAGED(clocks.timer.counter0.control, 1) DAMAGED(clocks.timer.counter1.control, 0x32) DAMAGED(clocks.timer.counter2.control, 64)
     DAMAGED(clocks.hundred, 100) DAMAGED(clocks.thousand, 1000) DAMAGED(ports.control, 0) DAMAGED(calibration.address, 128)
     DAMAGED(calibration.transfer, 5) DAMAGED(pins.din, 16) DAMAGED(wiring.inputs, 4)
 #undef DAMAGED
+    const unsigned place = given->board.fifo.place, held = given->board.fifo.held;
     l = *given;
-    l.memory[COWRIESTEP_MEMORY_LENGTH - 1] = 1;
+    l.memory[(place + held) % COWRIESTEP_MEMORY_LENGTH] = 1;
+    lengths(&l, 0);
+    l = *given;
+    l.memory[(place + COWRIESTEP_MEMORY_LENGTH - 1) % COWRIESTEP_MEMORY_LENGTH] = 1;
     lengths(&l, 0);
 }
 
@@ -89,9 +93,16 @@ static void muted(void) {
     until_is(&l, 0, 0);
     lengths(&l, 1);
     damaged(&l);
-    l.board.fifo.held = 2;
-    l.memory[1] = 7;
-    damaged(&l);
+    /* two samples from place 0 on, in the middle, round the end */
+    static const uint16_t places[] = { 0, 300, COWRIESTEP_MEMORY_LENGTH - 1 };
+    for (unsigned i = 0; i < sizeof places / sizeof *places; i++) {
+        const unsigned next = (places[i] + 1u) % COWRIESTEP_MEMORY_LENGTH;
+        l.board.fifo = (struct dmm32_fifo){ .held = 2, .place = places[i] };
+        l.memory[places[i]] = 6, l.memory[next] = 7;
+        lengths(&l, 1);
+        damaged(&l);
+        l.memory[places[i]] = l.memory[next] = 0;
+    }
     l.board = dmm32_fresh(4, 0);
     refused("1 with jumpers 4", &l, COWRIESTEP_MEMORY_LENGTH, COWRIESTEP_EEPROM_LENGTH, COWRIESTEP_REFUSED_RECORD);
 }

@@ -49,6 +49,7 @@ static void minus_one(void) {
         expect(HOST, "what a sample of -1 brought", brought.kind, COWRIESTEP_BROUGHT_NUMBER);
         expect(HOST, "the number that it brought", brought.number, 65535);
         expect(HOST, "held after it", board.fifo.held, 2 - i);
+        expect(HOST, "the place of the oldest after it", board.fifo.place, i < 2 ? i + 1 : 0);
     }
     empty_memory();
 }

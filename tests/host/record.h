@@ -22,7 +22,7 @@ static void expect(const char *host, const char *what, int64_t got, int64_t want
 #define BOARD_FIELDS(F) \
     F(converter.low) F(converter.high) F(converter.selected) F(converter.channel) F(converter.converting) F(converter.scanen) F(converter.clken) \
     F(requests.threshold) F(requests.fifoen) F(requests.clksel) F(requests.adinte) F(requests.dinte) F(requests.tinte) \
-    F(requests.flags.adint) F(requests.flags.dint) F(requests.flags.tint) F(fifo.held) F(fifo.ovf) \
+    F(requests.flags.adint) F(requests.flags.dint) F(requests.flags.tint) F(fifo.held) F(fifo.place) F(fifo.ovf) \
     F(registers.page) F(registers.dout) F(registers.counting) F(registers.range) \
     F(outputs.codes.out0) F(outputs.codes.out1) F(outputs.codes.out2) F(outputs.codes.out3) \
     F(outputs.load.loaded) F(outputs.load.channel) F(outputs.load.code) F(outputs.lsb) F(outputs.busy) \

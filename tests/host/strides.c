@@ -3,7 +3,7 @@
 
 enum { BOARDS = 40000, LONG_BOARDS = 80 };
 
-static long conversions, tint_rises, both, nothing, at_once, frequencies[4], external, gate_low, busy_ended, loads, triggers, half, round_0, converting, ones;
+static long conversions, tint_rises, both, nothing, at_once, frequencies[4], external, gate_low, busy_ended, loads, triggers, half, round_0, converting, ones, samples_round;
 
 static uint16_t random_count(void) { return (uint16_t)(below(2) ? 2 + below(5) : below(2) ? below(60) : below(4) ? 65536 - below(8) : below(65536)); }
 
@@ -30,6 +30,7 @@ static void random_board(struct lent *l) {
     b->requests = (struct dmm32_requests){ (uint8_t)below(256), (uint8_t)below(2), runs || below(4) != 0, (uint8_t)below(2), (uint8_t)below(2), (uint8_t)below(2),
         { (uint8_t)below(2), (uint8_t)below(2), below(4) == 0 } };
     b->fifo.held = helds[below(sizeof helds / sizeof *helds)];
+    b->fifo.place = (uint16_t)(b->fifo.held == 0 || below(2) ? 0 : below(COWRIESTEP_MEMORY_LENGTH));
     b->fifo.ovf = b->fifo.held == COWRIESTEP_MEMORY_LENGTH && below(2);
     b->registers = (struct dmm32_registers){ (uint8_t)below(4), (uint8_t)below(8), (uint8_t)(below(256) & (below(2) ? 255 : 255 - FREQ12)), (uint8_t)below(16) };
     b->outputs.busy = (uint8_t)(below(2) ? below(101) : 0);
@@ -41,7 +42,10 @@ static void random_board(struct lent *l) {
     random_counter(&b->clocks.timer.counter0, 0);
     random_counter(&b->clocks.timer.counter1, runs);
     random_counter(&b->clocks.timer.counter2, runs);
-    for (unsigned i = 0; i < sizeof l->memory / sizeof *l->memory; i++) l->memory[i] = i < b->fifo.held || i >= COWRIESTEP_MEMORY_LENGTH ? (uint16_t)below(65536) : 0;
+    for (unsigned i = 0; i < sizeof l->memory / sizeof *l->memory; i++) {
+        int held = (i + COWRIESTEP_MEMORY_LENGTH - b->fifo.place) % COWRIESTEP_MEMORY_LENGTH < b->fifo.held;
+        l->memory[i] = held || i >= COWRIESTEP_MEMORY_LENGTH ? (uint16_t)below(65536) : 0;
+    }
     for (unsigned i = 0; i < sizeof l->eeprom; i++) l->eeprom[i] = (uint8_t)below(256);
 }
 
@@ -128,6 +132,7 @@ static void random_boards(void) {
         external += (b.registers.counting & 2) != 0;
         gate_low += b.registers.counting & GT12EN && !(b.pins.din & DIN2);
         converting += b.converter.converting;
+        samples_round += b.fifo.place + b.fifo.held > COWRIESTEP_MEMORY_LENGTH;
         /* and on from there: the conversion ends, or goes on; the requests are reset, or stay */
         for (int more = 0; more < 3; more++) {
             if (l.board.converter.converting && below(2)) same("an end", dmm32_conversion_end(LENT(&l), (int16_t)below(65536)), 0);
@@ -154,6 +159,7 @@ static void random_boards(void) {
     occurred("; half-written:", half);
     occurred("; counts of 65,536 that ended in mode 0:", round_0);
     occurred("; converting:", converting);
+    occurred("; samples round the end:", samples_round);
     printf("\n");
 }
 

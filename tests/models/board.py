@@ -17,7 +17,9 @@ Operations, digits in hex; OO and O may have more digits than shown, w 8 in all:
     hOOOOHHHH  the host sets sample memory place OOOO
     zNN     spoils the board: the table stands in spoils.py
     y       outputs / DOUT pins 2, 1, 0 / driven lines and levels of A, B, C / TrimDAC
-    q       samples held, and the oldest and the newest
+    q       samples held, and the oldest and the newest, read round the circle; the number
+            held alone where none is, where more are than there are places, and where
+            the place of the oldest is not below their number
 Results: nothing for done, a byte in two and a word in four hex capitals, empty for a
 word read that finds nothing, ! and the number for a refusal, each after a space.  Of t
 and n each event has its result.
@@ -112,10 +114,8 @@ class BoardScript:
 
     def do_q(self):
         memory = self.board.samples
-        if memory.held == 0:
-            return " 0"
-        newest = memory.places[memory.held - 1]
-        return " %d:%04X-%04X" % (memory.held, memory.places[0], newest)
+        ends = memory.ends()
+        return " %d" % memory.held + (":%04X-%04X" % ends if ends else "")
 
 
 def dout_pins(board):

@@ -2,13 +2,15 @@
 """Random lines for the board: python3 board_random.py SEED LINES
 
 Counts are short, ranges small, and page, key and ticks are chosen so that deep
-states come up: scans, overflows, cascades, transfers, busy outputs.  A few lines
-end with a spoil of the list below; after it only single events follow.
+states come up: scans, overflows, cascades, transfers, busy outputs, samples round
+the end of their memory.  A few lines end with a spoil of the list below; after it
+only single events follow.  A few others poke places of the sample memory at their
+end, held and free.
 """
 import timer_random
 from random_lines import print_lines
 
-SPOILS = tuple(range(0x00, 0x4A))
+SPOILS = tuple(range(0x00, 0x4C)) + (0x4A, 0x4B) * 3
 CHANNELS = (0, 1, 2, 3, 3, 4, 5, 30, 31)
 TICKS = (1, 1, 1, 2, 2, 3, 4, 5, 8, 99, 100, 101, 999, 1000, 1001)
 OPERATIONS_9 = (0x00, 0x80, 0xE0, 0xE0, 0xE2, 0xE3, 0xA3, 0x02, 0x03, 0x23, 0x01)
@@ -20,6 +22,7 @@ HIDDEN = (0x0E, 0x0F, 0x1B, 0x1D, 0x1E, 0x1F, 0x20, 0x32, 0x39, 0x40)   # spoils
 FAR = ("r10", "w1000", "x01", "x10", "rFF", "r100", "r10F", "x100", "x10000", "w10000",
        "w1000820", "rFFFFFFFF")
 WIDE_DIN = (0x10, 0x18, 0xF7, 0x100, 0x107, 0x10F, 0x1000F, 0xFFFFFFFF)
+PLACES = (0, 1, 2, 3, 4, 8, 20, 0x1FD, 0x1FE, 0x1FF)     # at and beside the memory's ends
 HIGH = (1, 1, 1, 2, 0x10, 0x100, 0x10000)               # Latch levels that are high
 
 
@@ -161,6 +164,30 @@ class Line:
         weights = [weight for _, weight in self.KINDS]
         return self.dice.choices(methods, weights)[0](self)
 
+    def circle(self):
+        """Samples in the middle or round the end: a memory filled, drained in part, refilled."""
+        filled = self.dice.choice((6, 40, 0x200, 0x200, 0x200))
+        read = self.dice.choice((1, 2, 3, 4, 7, 20, 300, 509, 510, 511, 512))
+        read = min(read, filled - (filled < 0x200))
+        refilled = self.dice.choice((0, 0, 1, 1, 2, 3, 5, 300, read - 1, read, read + 1))
+        refilled = min(refilled, 0x200 - filled + read + 1)
+        parts = ["n%04X" % filled] + self.dice.choices(("x00", "r01"), (9, 1), k=read)
+        parts += ["n%04X" % refilled, "q"]
+        if self.often(0.4):
+            beside = ((filled + refilled) % 512, read - 1)  # behind the newest, before the oldest
+            parts.append(self.pokes(beside * 3 + PLACES))
+        return " ".join(parts)
+
+    def pokes(self, places):
+        """Some of the places or any other, poked and put back to 0."""
+        parts = []
+        for _ in range(self.dice.randrange(1, 4)):
+            place = self.dice.choice(places + (self.dice.randrange(512),))
+            parts.append("h%04X%04X r07 q" % (place, self.dice.choice((1, 0x100, 0x8000, 0xFFFF))))
+            parts += self.dice.choices(("x00", "w0000", "e0005", "t0001"), k=2)
+            parts.append("h%04X0000 r07" % place)
+        return " ".join(parts + ["x00 w0000 e0006 q"])
+
     # The line as a whole
 
     def start(self):
@@ -170,6 +197,8 @@ class Line:
             parts.append("b%d%d" % (self.dice.randrange(4), self.dice.randrange(2)))
         if self.often(0.3):
             parts.append("n%04X" % self.dice.choice((1, 2, 3, 0xFE, 0xFF, 0x1FE, 0x1FF, 0x200)))
+        elif self.often(0.15):
+            parts.append(self.circle())
         if self.often(0.5):
             parts.append("w0F54 w0D02 w0F%02X w0E02" % self.dice.choice((0x94, 0x90)))
         if self.often(0.5):
@@ -183,9 +212,11 @@ class Line:
             parts.append("z%02X" % spoil)
             single = ("w0000", "r07", "x00", "e0001", "d07", "l1", "p0FF", "t0001", "f",
                       "w0820", "w1000", "d10", "r107", "w10820", "d107", "l2")
-            parts += self.dice.choices(single, k=5) + ["y"] * (spoil not in HIDDEN)
+            parts += self.dice.choices(single, k=5) + ["q"] + ["y"] * (spoil not in HIDDEN)
         elif self.often(0.03):
             parts.append("h01FF0001 r07 x00 w0000 q")
+        elif self.often(0.08):
+            parts.append(self.pokes(PLACES))
         return parts
 
     def text(self):

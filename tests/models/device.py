@@ -1,8 +1,8 @@
 """The board: its events, requests and refusals.
 
 Made from the specification ("What is delivered", "Refusal numbers",
-"Conversions, edges and requests"), request M-100 and the manual.  An event is a
-method; its name and numbers are first looked at by `refusal`.
+"Conversions, edges and requests"), requests M-100 and M-105 and the manual.  An event
+is a method; its name and numbers are first looked at by `refusal`.
 """
 import calibration
 import registers

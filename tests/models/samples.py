@@ -1,37 +1,48 @@
-"""The sample memory (manual chapters 10 and 11.2, "the A/D FIFO")."""
+"""The sample memory (manual chapters 10 and 11.2, "the A/D FIFO"; request M-105)."""
 
 PLACES = 512
 HALF = 256
 
 
 class SampleMemory:
-    """Samples stand oldest first from place 0; free places are 0."""
+    """A circle: samples stand from the oldest's place on, round the end; free places are 0."""
 
     def __init__(self):
         self.places = [0] * PLACES
         self.held = 0
+        self.place = 0              # of the oldest sample; 0 when none is held
         self.overflow = False
+
+    def free(self):
+        """What the free places have: one stretch where samples go round the end, else two."""
+        behind = self.place + self.held
+        if behind > PLACES:
+            return self.places[behind - PLACES:self.place]
+        return self.places[behind:] + self.places[:self.place]
 
     def fit(self):
         """Is this the memory of a working board?"""
-        if not 0 <= self.held <= PLACES:
+        if not (0 <= self.held <= PLACES and 0 <= self.place < PLACES):
+            return False
+        if self.empty() and self.place != 0:
             return False
         if self.overflow and self.held != PLACES:
             return False
-        return not any(self.places[self.held:])
+        return not any(self.free())
 
     def reset(self):
         """FIFORST, and part of every reset of the board."""
         self.places[:] = [0] * len(self.places)
         self.held = 0
+        self.place = 0
         self.overflow = False
 
     def store(self, code):
-        """An end with 512 held loses the new sample and sets OVF."""
+        """The sample goes behind the newest; with 512 held it is lost and sets OVF."""
         if self.held == PLACES:
             self.overflow = True
         else:
-            self.places[self.held] = code
+            self.places[(self.place + self.held) % PLACES] = code
             self.held += 1
 
     def empty(self):
@@ -39,14 +50,23 @@ class SampleMemory:
 
     def oldest(self):
         """The oldest sample as the byte reads show it; all ones when there is none."""
-        return 0xFFFF if self.empty() else self.places[0]
+        return 0xFFFF if self.empty() else self.places[self.place]
 
     def remove(self):
-        """The oldest sample leaves and OVF clears; no change when empty."""
-        if not self.empty():
-            self.places[:] = self.places[1:] + [0]
-            self.held -= 1
-            self.overflow = False
+        """The oldest sample leaves, its place becomes 0 and OVF clears; no change when empty."""
+        if self.empty():
+            return
+        self.places[self.place] = 0
+        self.held -= 1
+        self.place = 0 if self.empty() else (self.place + 1) % PLACES
+        self.overflow = False
+
+    def ends(self):
+        """The oldest and the newest, read round the places that there are, or None."""
+        places = len(self.places)
+        if self.place >= places or self.held > places or self.empty():
+            return None
+        return self.places[self.place], self.places[(self.place + self.held - 1) % places]
 
     def flags(self):
         """EF, HF, FF and OVF at bits 7 to 4, as Base + 7 shows them."""

@@ -10,7 +10,7 @@ working board has as 0 or 1: they take the flags in the record's order.
     02  sample memory has no place
     03  EEPROM has 127 places: the last is cut off
     04  EEPROM has 129 places: a 0 is added
-    05  513 samples held (do not show q after it)
+    05  513 samples held
     06  511 samples held and OVF set
     07  channel selected is 32
     08  low channel is 32
@@ -55,6 +55,8 @@ working board has as 0 or 1: they take the flags in the record's order.
     38  to 3E are those of counter 1        3F  to 45 those of counter 2
     46  key is 2                            47  CMUXEN is 2
     48  Latch level is 2                    49  zero-scale jumper is 2
+    4A  place of the oldest sample is 512
+    4B  no sample held and the place of the oldest is 5
 """
 from counter import LOW_BYTE, Counter
 
@@ -66,6 +68,10 @@ def cut(places, number):
 
 def held(board, number, overflow):
     board.samples.held, board.samples.overflow = number, overflow
+
+
+def none_held_at_5(board):
+    board.samples.held, board.samples.place = 0, 5
 
 
 def counter_with_1_to_load(board, number):
@@ -139,3 +145,5 @@ SPOILS = {
 }
 for place, name in enumerate(flags()):
     SPOILS[0x24 + place] = lambda board, flag=name: board.damaged.add(flag)
+SPOILS[0x4A] = lambda board: setattr(board.samples, "place", 512)
+SPOILS[0x4B] = none_held_at_5

@@ -13,8 +13,8 @@ Declared = namedtuple('Declared', 'crate is_enum variants')
 # A variant of an enum whose variants hold nothing.
 Variant = namedtuple('Variant', 'type name')
 # A function over a lent board: what it calls (a path), a variant that it passes on before its own parameters (or None), the event of its contract, or the number of ticks (a term)
-# with the variants that this names, and whether it tests the lengths first.
-Thin = namedtuple('Thin', 'name parameters callee built event named tested')
+# with the variants that this names, whether it tests the lengths first, and which part of the record it stores, '' where it stores the whole.
+Thin = namedtuple('Thin', 'name parameters callee built event named tested part')
 
 SCALARS = {'bool': 1, 'u8': 1, 'i8': 1, 'u16': 2, 'i16': 2, 'u32': 4, 'i32': 4, 'f32': 4, 'u64': 8, 'i64': 8, 'f64': 8, 'usize': 8, 'isize': 8}
 LENT = [('board', '&mut Board'), ('memory', '&mut [u16]'), ('eeprom', '&mut [u8]')]
@@ -80,9 +80,12 @@ class Types:
 
     def field(self, struct, name):
         """The type of a struct's field, and where it lies."""
-        fields = self.declared(struct).variants[struct]
-        k = [n for n, _ in fields].index(name)
+        fields, k = self.declared(struct).variants[struct], self.place(struct, name)
         return fields[k][1], up(self.alignment(fields[k][1]), self.end(0, fields[:k]))
+
+    def place(self, struct, name):
+        """Which of a struct's fields it is, from 0 on."""
+        return [n for n, _ in self.declared(struct).variants[struct]].index(name)
 
 
 def up(k, e):
@@ -100,6 +103,7 @@ def length(array):
 
 CONTRACT = r'CONTRACT \w+ \(now \(board \.entry\)\) \(now \(memory \.entry\)\) \(now \(eeprom \.entry\)\) (.*) r \(now \(board \.exit\)\)'
 CALL = r'let out = ([\w:]+)\(\s*\*board,\s*memory,\s*eeprom,?\s*(.*?),?\s*\);'
+STORE = r'(?:\*board = out\.board|board\.(\w+) = out\.\1);'
 TEST = 'if (memory.len() != 512) | (eeprom.len() != 128) { return 0x62000000; }'
 
 
@@ -110,14 +114,16 @@ def home(path):
     return home(passed[1]) if passed else path
 
 
-def thin_functions(crate, contract):
-    """The functions of a crate that call `CALLEE(*board, memory, eeprom, ..)` over a lent board and whose contract is this record, in the order written."""
+def thin_functions(crate, contract, part):
+    """The functions of a crate that call `CALLEE(*board, memory, eeprom, ..)` over a lent board, whose contract is this record, and which store this part of it, in
+    the order written."""
     found = []
     for text in texts(crate):
         for name, parameters, body in re.findall(r'^pub (?:extern "C" )?fn (\w+)\((.*?)\) -> \w+\n(.*?)^\}', text, re.M | re.S):
             call = re.search(CALL, body, re.S)
             if call and contract + ' ' in body:
                 found.append(thin(name, fields_in(parameters), home(call.group(1)), call.group(2), body, contract))
+    found = [function for function in found if function.part == part]
     if not found:
         raise SystemExit(f'tools/walks.py: no function of {crate} calls another over a lent board')
     return found
@@ -127,11 +133,11 @@ def thin(name, parameters, callee, passed, body, contract):
     """The function that passes these arguments on beside what is lent."""
     lent, own = parameters[:3], parameters[3:]
     body = ' '.join(body.split())
-    event = re.search(CONTRACT.replace('CONTRACT', contract), body)
+    event, stored = re.search(CONTRACT.replace('CONTRACT', contract), body), re.search(STORE, body)
     built = re.match(r'(\w+)::(\w+)(?:, |$)', passed)
     rest = passed[built.end():] if built else passed
-    if lent != LENT or not event or [word for word in rest.split(', ') if word] != [p for p, _ in own]:
+    if lent != LENT or not event or not stored or [word for word in rest.split(', ') if word] != [p for p, _ in own]:
         raise SystemExit(f'tools/walks.py: {name} is not of the shape that the walks have')
     named = [Variant(*of) for of in re.findall(r'(\w+)\.(\w+)', event.group(1))]
     term = re.sub(r'\w+\.(\w+)', r'\1', event.group(1))
-    return Thin(name, own, callee.split('::'), Variant(*built.groups()) if built else None, term, named, TEST in body)
+    return Thin(name, own, callee.split('::'), Variant(*built.groups()) if built else None, term, named, TEST in body, stored.group(1) or '')

@@ -75,8 +75,8 @@ def local(i): return 'l' + str(i).translate(str.maketrans('0123456789', '₀₁�
 def loaded(places): return ''.join(f'(and-then ! (load ! (from ! (stop !)) (look ! {i} refl)) ' for i in places) + '(no-more !)' + ')' * len(places)
 
 
-def paired(xs):
-    text = 'tt'
+def paired(xs, rest='tt'):
+    text = rest
     for x in reversed(xs):
         text = f'({x}, {text})'
     return text

@@ -23,3 +23,7 @@ pub mod EdgeLaws
 pub mod NoEdge
 pub mod StatusLaws
 pub mod Status
+pub mod EarlierBoard
+pub mod Placed
+pub mod SameLaws
+pub mod Same

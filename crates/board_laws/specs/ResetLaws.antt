@@ -2,16 +2,14 @@
 use Prim.Native.Nat.{ℕ, zero, suc, _≤_}
 use mathlib.Core.Path.{_≡_, refl}
 use mathlib.Core.Bool.{true}
-use mathlib.Core.List.{[]}
 use native.Mathlib.Omega.{arith}
 use borrow.Author.Tests.{eq-eqb}
 use lib.ListN.{replicate}
 use lib.Dec.{eqb}
 use Rattle.base.specs.Fields.{bit}
 use Rattle.base.specs.Flags.{on, flag, flag-on}
-use Rattle.fifo.specs.Queue.{layout, emptyFifo}
-use Rattle.fifo.specs.Queue.Laws.{clear-works}
-use Rattle.fifo.specs.Queue.Places.{free-zero}
+use Rattle.fifo.specs.Queue.{emptyFifo}
+use Rattle.fifo.specs.Queue.Places.{layout-empty}
 use Rattle.machine_record.specs.Parts.{withFifo}
 use Rattle.machine_record.specs.Fresh.{jumpersNumber, jumpersOf}
 use Rattle.machine_record.specs.Working.{WorkingMachine}
@@ -47,7 +45,7 @@ module _ (s : State) (v : ℕ) (w : Works s) where
   pub reset-leaves : isReset v ≡ true
       → afterEvent s (WriteByte 8 v) ≡ record { board = withFifo (boardReset (s .board) (bit v 5)) emptyFifo; memory = replicate 512 0; eeprom = s .eeprom }
   unfolding stepOf memoryAfter eepromAfter ran acted eepromActed placeOf writtenAt miscWritten writeEffect
-  reset-leaves h = rw (taken, h, free-zero emptyFifo (layout emptyFifo []) clear-works)
+  reset-leaves h = rw (taken, h, layout-empty)
 
   pub reset-done : answerAt s (WriteByte 8 v) ≡ Done
   unfolding stepOf ran acted

@@ -113,7 +113,7 @@ module _ (s : State) where
   pub some-read : Works s → (s .board .fifo .held ≡ 0 → ⊥)
       → answerAt s (ReadWord 0) ≡ Word (valueRead (answerAt s (ReadByte 0)) + 256 * valueRead (answerAt s (ReadByte 1)))
   some-read w h =
-      let v = getD (s .memory) 0 0 in
+      let v = getD (s .memory) (s .board .fifo .place) 0 in
       let n : whole ≡ true = taken w in
       let o : oldest ≡ Sample v = sym (oldest-some (s .board .fifo) (s .memory) (w .working .fifo) h) in
       let l : valueRead (answerAt s (ReadByte 0)) ≡ v % 256 = low-of ∙ rw (n, o) in

@@ -125,7 +125,7 @@ fn set_or_show(b: BoardBench, memory: &mut [u16], eeprom: &mut [u8], letter: u8,
         b'm' => set_byte(eeprom, value),
         b'h' => set_place(memory, value),
         b'y' => view::show_host(b.board),
-        b'q' => view::show_samples(b.board.fifo, memory),
+        b'q' => view::show_samples(b.board.fifo, memory, b.places),
         _ => {}
     }
 }

@@ -1,5 +1,5 @@
 -- What damages a flag of a board's record, by numbers 24 to 49 hex in the order of the record (struct dmm32_board of include/cowriestep.h):
--- the flag of that number becomes 2, and all else stays; another number leaves the whole record.
+-- the flag of that number becomes 2, and all else stays. 4A and 4B damage the place of the oldest sample. Another number leaves the whole record.
 use Prim.Native.Nat.{ℕ, _-_}
 use lib.Dec.{eqb, ltb}
 use Rattle.base.specs.Choice.{if_then_else_}
@@ -54,9 +54,15 @@ damagedRequests r n = record {
   flags = damagedAsked (r .flags) n;
 }
 
--- ---- sample memory and outputs: 2F and 30
+-- ---- sample memory: 2F; 4A, the place of the oldest is 512; 4B, none held and the place 5
 unfoldable pub damagedFifo : Fifo → ℕ → Fifo
-damagedFifo f n = record { held = f .held; ovf = damagedFlag (f .ovf) n 0x2F }
+damagedFifo f n = record {
+  held = if eqb n 0x4B then 0 else f .held;
+  place = if eqb n 0x4A then 512 else if eqb n 0x4B then 5 else f .place;
+  ovf = damagedFlag (f .ovf) n 0x2F;
+}
+
+-- ---- outputs: 30
 
 abbrev pub damagedLoad : Load → ℕ → Load
 damagedLoad l n = record { loaded = damagedFlag (l .loaded) n 0x30; channel = l .channel; code = l .code }

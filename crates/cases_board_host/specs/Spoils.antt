@@ -1,5 +1,5 @@
--- What spoils a board's record, by numbers 05 to 49 hex: 05 to 23 stand here, those of the flags in SpoiledFlags. Every spoil acts on the
--- record as it stands and leaves all that it does not name; another number leaves the whole record.
+-- What spoils a board's record, by numbers 05 to 4B hex: 05 to 23 stand here, those of the flags and of the place of the oldest sample in SpoiledFlags. Every
+-- spoil acts on the record as it stands and leaves all that it does not name; another number leaves the whole record.
 use Prim.Native.Nat.{ℕ}
 use lib.Dec.{eqb, ltb}
 use Rattle.base.specs.Choice.{if_then_else_}
@@ -24,9 +24,9 @@ use Rattle.cases_board_host.specs.SpoiledFlags.{damaged}
 -- 05: 513 samples held. 06: 511 samples held and OVF set. 21: no sample held and OVF set
 unfoldable pub spoiledFifo : Fifo → ℕ → Fifo
 spoiledFifo f n =
-    if eqb n 0x05 then record { held = 513; ovf = f .ovf }
-    else if eqb n 0x06 then record { held = 511; ovf = 1 }
-    else if eqb n 0x21 then record { held = 0; ovf = 1 }
+    if eqb n 0x05 then record { held = 513; place = f .place; ovf = f .ovf }
+    else if eqb n 0x06 then record { held = 511; place = f .place; ovf = 1 }
+    else if eqb n 0x21 then record { held = 0; place = f .place; ovf = 1 }
     else f
 
 -- ---- channels

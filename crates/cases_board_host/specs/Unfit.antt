@@ -1,7 +1,7 @@
 -- No spoiled board is a working one, whatever it was before and whatever its sample memory holds: each number from 05 to 23 hex puts
--- something out of its range, and each from 24 to 49 makes a flag 2.
+-- something out of its range, each from 24 to 49 makes a flag 2, and 4A and 4B leave no place of the oldest sample that a working board has.
 use Prim.Native.Nat.{ℕ, _+_, _-_, _≤_, _<_}
-use mathlib.Core.Path.{_≡_, refl, sym}
+use mathlib.Core.Path.{_≡_, refl, sym, subst}
 use mathlib.Core.Bool.{Bool, true, false}
 use mathlib.Core.List.{List}
 use native.Mathlib.Omega.{arith}
@@ -153,7 +153,7 @@ unfit-ranges b memory n from to w f =
     let n24 = next 0x23 n n23 (p .3) in
     omega (arith, n24, to)
 
--- ---- the numbers 24 to 49
+-- ---- the numbers 24 to 4B
 -- where a flag is 0 or 1, the number is not its own
 other : (n own v : ℕ) → damagedFlag v n own ≤ 1 → Not n own
 unfolding damagedFlag
@@ -179,7 +179,7 @@ after n first from h = by (ltb n first) refl h
     by true t h = absurd (let z : n < first = ltb-true n first t in omega (arith, z, from))
     by false t h = omega (arith, from, h)
 
-unfit-flags : (b : Board) (memory : List ℕ) (n : ℕ) → 0x24 ≤ n → n ≤ 0x49
+unfit-flags : (b : Board) (memory : List ℕ) (n : ℕ) → 0x24 ≤ n → n ≤ 0x4B
     → WorkingMachine (damaged b n) → WorkingFifo (damaged b n .fifo) memory → ⊥
 unfolding damaged damagedConverter damagedRequests damagedFifo damagedOutputs damagedTimer damagedClocks damagedCalibration
 unfit-flags b memory n from to w f =
@@ -203,10 +203,13 @@ unfit-flags b memory n from to w f =
     let n48 = next 0x47 n n47 (other n _ _ (w .calibration .cmuxen)) in
     let n49 = next 0x48 n n48 (other n _ _ (w .latch)) in
     let n4A = next 0x49 n n49 (other n _ _ (w .zeroscale)) in
-    omega (arith, n4A, to)
+    let n4B = next 0x4A n n4A (λ e. let h = subst (λ (k : ℕ). WorkingFifo (damagedFifo (b .fifo) k) memory) e f .place in omega (arith, h)) in
+    let n4C =
+    next 0x4B n n4B (λ e. let h : _≡_ {A = ℕ} 5 0 = subst (λ (k : ℕ). WorkingFifo (damagedFifo (b .fifo) k) memory) e f .empty refl in omega (arith, h)) in
+    omega (arith, n4C, to)
 
 -- ---- the board
-pub unfit : (b : Board) (memory : List ℕ) (n : ℕ) → 0x05 ≤ n → n ≤ 0x49
+pub unfit : (b : Board) (memory : List ℕ) (n : ℕ) → 0x05 ≤ n → n ≤ 0x4B
     → WorkingMachine (spoiled b n) → WorkingFifo (spoiled b n .fifo) memory → ⊥
 unfolding spoiled
 unfit b memory n from to w f = by (ltb n 0x24) refl w f

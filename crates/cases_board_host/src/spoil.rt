@@ -19,13 +19,22 @@ ghost use Rattle.cases_board_host.specs.Spoils.{spoiledCalibration, spoi
 fn spoil_fifo(f: Fifo, n: u32) -> Fifo
     ensures { λ r. ⌜ r ≡ spoiledFifo f n ⌝ }
 {
+    let mut g = f;
     match n {
-        0x05 => Fifo {
-            held: 513,
-            ovf: f.ovf,
-        },
-        0x06 => Fifo { held: 511, ovf: 1 },
-        0x21 => Fifo { held: 0, ovf: 1 },
+        0x05 => {
+            g.held = 513;
+            g
+        }
+        0x06 => {
+            g.held = 511;
+            g.ovf = 1;
+            g
+        }
+        0x21 => {
+            g.held = 0;
+            g.ovf = 1;
+            g
+        }
         _ => f,
     }
 }

@@ -1,5 +1,5 @@
 // Damages one flag of a board's record by a number from 24 to 49 hex, in the record's order: the flag becomes 2, which a working board has
-// nowhere. Another number leaves the record. Each contract is a definition of specs/SpoiledFlags.antt.
+// nowhere. 4A and 4B damage the place of the oldest sample. Another number leaves the record. Each contract is a definition of specs/SpoiledFlags.antt.
 use calibration::Calibration;
 use converter::channels::Converter;
 use counter::Bus;
@@ -72,6 +72,12 @@ fn damage_fifo(f: Fifo, n: u32) -> Fifo
 {
     let mut g = f;
     g.ovf = damage_wide(f.ovf, n, 0x2F);
+    if n == 0x4A {
+        g.place = 512;
+    } else if n == 0x4B {
+        g.held = 0;
+        g.place = 5;
+    }
     g
 }
 

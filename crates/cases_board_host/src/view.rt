@@ -119,19 +119,34 @@ pub fn show_host(b: Board) {
     show_trimdac(trim);
 }
 
-fn show_range(memory: &[u16], held: usize) {
-    if held > 0 {
-        if held <= memory.len() {
+// The numbers at two places, where there are such places.
+fn show_ends(memory: &[u16], oldest: usize, newest: usize) {
+    if oldest < memory.len() {
+        if newest < memory.len() {
             io::write_all(STDOUT_FILENO, b":");
-            show_digits(memory[0]);
+            show_digits(memory[oldest]);
             io::write_all(STDOUT_FILENO, b"-");
-            show_digits(memory[held - 1]);
+            show_digits(memory[newest]);
         }
     }
 }
 
-pub fn show_samples(f: Fifo, memory: &[u16]) {
+// The oldest and the newest of the samples held, which stand from `place` on, round the memory's places.
+fn show_range(memory: &[u16], places: usize, place: usize, held: usize) {
+    if place < places {
+        if held > 0 {
+            let ahead = places - place;
+            if held <= ahead {
+                show_ends(memory, place, place + (held - 1));
+            } else if held <= places {
+                show_ends(memory, place, held - ahead - 1);
+            }
+        }
+    }
+}
+
+pub fn show_samples(f: Fifo, memory: &[u16], places: usize) {
     io::write_all(STDOUT_FILENO, b" ");
     io::print_decimal(STDOUT_FILENO, f.held as u64);
-    show_range(memory, f.held as usize);
+    show_range(memory, places, f.place as usize, f.held as usize);
 }

@@ -67,7 +67,7 @@ pub extern "C" fn dmm32_read_word(
         return 0x62000000;
     }
     let out = numbers::stepping::read_word(*board, memory, eeprom, offset);
-    *board = out.board;
+    board.fifo = out.fifo;
     out.number
 }
 

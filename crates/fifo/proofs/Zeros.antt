@@ -6,12 +6,13 @@ use Prim.Native.Nat.{ℕ, zero, suc, _+_, _*_, _-_, _≤_, _<_}
 use native.Mathlib.Numerals.{add-one}
 use native.Mathlib.Omega.{arith}
 use lib.ListN.{length, getD, take, drop, length-drop, take-append-drop}
-use lib.Seq.{take-suc, take-all, getD-drop, drop-drop}
+use lib.Seq.{length-take-le, take-suc, take-all, take-take, take-add, getD-drop, drop-drop, drop-at, drop-append-le, drop-append-add}
 use lib.Bits.{bitOr, bitAnd, or-add-and, and-comm, and-le-l}
-use lib.Dec.{eqb}
-use borrow.Author.Tests.{ne-eqb}
+use lib.Dec.{eqb, ltb}
+use borrow.Author.Tests.{ne-eqb, lt-ltb, le-ltb}
 use Rattle.base.specs.Laws.{both}
-use Rattle.fifo.specs.Queue.{zeros}
+use Rattle.fifo.specs.Queue.{zeros, turned}
+use Rattle.fifo.specs.Queue.Circle.{turned-none}
 
 joined : (a b : ℕ) → eqb (bitOr a b) 0 ≡ eqb a 0 && eqb b 0
 joined zero b = refl
@@ -71,17 +72,60 @@ blocks l n k e h =
     (zeros-at (n - k) (drop k l) ∙ ap (λ (s : List ℕ). zeros (take (n - k) (drop k l)) && zeros s) d)
     ∙ sym (zeros-at n l))
 
--- the last 2 n places of 512, or fewer, but n at least
-pub ends-zero : (m : List ℕ) (from n a b : ℕ) → length m ≡ 512 → from + n ≤ 512 → 512 ≤ from + 2 * n
-    → eqb a 0 ≡ zeros (take n (drop from m)) → eqb b 0 ≡ zeros (take n (drop (512 - n) m)) → eqb (bitOr a b) 0 ≡ zeros (drop from m)
-ends-zero m from n a b l f t p q =
-    let k = (512 - n) - from in
-    let i : from + k ≡ 512 - n = omega arith in
-    let d : drop k (drop from m) ≡ drop (512 - n) m = drop-drop k from m ∙ ap (λ (j : ℕ). drop j m) i in
-    joined a b ∙ rw (p, q, sym d) (blocks (drop from m) n k (rw (length-drop from m) (omega arith)) (omega arith))
+-- ---- parts of a memory
+drop-take : (k n : ℕ) (l : List ℕ) → k ≤ length l → drop k (take (k + n) l) ≡ take n (drop k l)
+drop-take k n l h = ap (drop k) (take-add k n l) ∙ drop-at (take k l) (take n (drop k l)) k (length-take-le k l h)
 
--- all places to the last of the 512
-pub rest-zero : (m : List ℕ) (from bits : ℕ) → length m ≡ 512 → eqb bits 0 ≡ zeros (take (512 - from) (drop from m)) → eqb bits 0 ≡ zeros (drop from m)
-rest-zero m from bits l e =
-    let r : length (drop from m) ≤ 512 - from = rw (length-drop from m) (omega arith) in
-    e ∙ ap zeros (take-all (512 - from) (drop from m) r)
+-- n to 2 n places of a memory by their two ends
+pub ends-zero : (m : List ℕ) (from count n a b : ℕ) → from + count ≤ length m → n ≤ count → count ≤ 2 * n
+    → eqb a 0 ≡ zeros (take n (drop from m)) → eqb b 0 ≡ zeros (take n (drop (from + count - n) m)) → eqb (bitOr a b) 0 ≡ zeros (take count (drop from m))
+ends-zero m from count n a b h f t p q =
+    let k = count - n in
+    let part : List ℕ = drop from m in
+    let fits : count ≤ length part = rw (length-drop from m) (omega arith) in
+    let i : k + n ≡ count = omega arith in
+    let j : from + k ≡ from + count - n = omega arith in
+    let second : drop k (take count part) ≡ take n (drop (from + count - n) m) =
+    ap (λ (c : ℕ). drop k (take c part)) (sym i)
+    ∙ drop-take k n part (omega arith)
+    ∙ ap (take n) (drop-drop k from m ∙ ap (λ (d : ℕ). drop d m) j) in
+    joined a b
+    ∙ rw (p, q, sym (take-take n count part f), sym (take-take n n (drop (from + count - n) m) (omega arith)), sym second)
+    (blocks (take count part) n k (length-take-le count part fits ∙ sym i) (omega arith))
+
+-- ---- the free places, where the first sample stands at `place` and `held` are held
+module _ (m : List ℕ) (place held : ℕ) (long : length m ≡ 512) (fits : held ≤ 512) where
+  -- from place 0 on: those behind the samples
+  pub free-behind : place ≡ 0 → zeros (take (512 - held) (drop held m)) ≡ ltb place 512 && zeros (drop held (turned place m))
+  free-behind e =
+      let r : length (drop held m) ≤ 512 - held = rw (length-drop held m) (omega arith) in
+      rw (e, turned-none m) (ap zeros (take-all (512 - held) (drop held m) r))
+
+  pub no-place : 512 ≤ place → false ≡ ltb place 512 && zeros (drop held (turned place m))
+  no-place h = rw (le-ltb place 512 h)
+
+  -- where the samples do not go round: those behind them and those before them
+  pub free-around : place + held < 512
+      → zeros (take (512 - (place + held)) (drop (place + held) m)) && zeros (take place (drop 0 m)) ≡ ltb place 512 && zeros (drop held (turned place m))
+  unfolding turned
+  free-around h =
+      let r : length (drop (place + held) m) ≤ 512 - (place + held) = rw (length-drop (place + held) m) (omega arith) in
+      let n : held ≤ length (drop place m) = rw (length-drop place m) (omega arith) in
+      let parts : drop held (drop place m ++ take place m) ≡ drop (place + held) m ++ take place m =
+      drop-append-le held (drop place m) (take place m) n ∙ ap (λ (l : List ℕ). l ++ take place m) (drop-drop held place m) in
+      rw (lt-ltb place 512 (omega arith), parts, zeros-append (drop (place + held) m) (take place m), take-all (512 - (place + held)) (drop (place + held) m) r)
+
+  -- where they go round: those between the newest and the oldest
+  pub free-between : place < 512 → 512 ≤ place + held
+      → zeros (take (512 - held) (drop (place + held - 512) m)) ≡ ltb place 512 && zeros (drop held (turned place m))
+  unfolding turned
+  free-between hp h =
+      let k = place + held - 512 in
+      let n : length (drop place m) + k ≡ held = rw (length-drop place m) (omega arith) in
+      let i : k + (512 - held) ≡ place = omega arith in
+      let part : drop held (drop place m ++ take place m) ≡ take (512 - held) (drop k m) =
+      ap (λ (j : ℕ). drop j (drop place m ++ take place m)) (sym n)
+      ∙ drop-append-add (drop place m) (take place m) k
+      ∙ ap (λ (j : ℕ). drop k (take j m)) (sym i)
+      ∙ drop-take k (512 - held) m (omega arith) in
+      rw (lt-ltb place 512 hp, part)

@@ -1,5 +1,5 @@
 pub mod Samples
 pub mod Flags
-pub mod Moves
 pub mod Queue
+pub mod Earlier
 pub mod Cases

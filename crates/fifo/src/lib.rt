@@ -1,18 +1,20 @@
-// The sample memory (manual 11.2 and Base + 7): a record by value, and 512 places that the caller lends. Promises speak of the samples held,
-// oldest first (`queue`), and of the memory that holds them (`layout`). Which places those are is known in this crate alone.
+// The sample memory (manual 11.2 and Base + 7): a record by value, and 512 places that the caller lends, as a circle: place 0 follows place 511. Promises
+// speak of the samples held, oldest first (`queue`), and of the memory that holds them (`layout`). Which places those are is known in this crate alone.
 ghost use mathlib.Core.Path.{_≡_};
 ghost use mathlib.Core.List.{[]};
-ghost use Prim.Native.Nat.{_+_, _*_, _≤_, _<_};
-ghost use lib.Dec.{eqb};
+ghost use mathlib.Core.Bool.{_&&_};
+ghost use Prim.Native.Nat.{_+_, _*_, _≤_};
+ghost use lib.Dec.{eqb, ltb};
 ghost use lib.ListN.{length, take, drop};
 ghost use Rattle.fifo.specs.Samples.{oldestOf, lowByteOf, highByteOf, pushed, popped};
 ghost use Rattle.fifo.specs.Flags.{EF, HF, FF, flagBits};
-ghost use Rattle.fifo.specs.Queue.{zeros, queue, emptyFifo, pushedTo, poppedFrom, Leaves, isWorkingFifo, WorkingFifo};
-ghost use Rattle.fifo.specs.Moves.{movedDown};
+ghost use Rattle.fifo.specs.Queue.{turned, zeros, queue, emptyFifo, pushedTo, placeAfter, poppedFrom, Leaves, isWorkingFifo, WorkingFifo};
 
 #[repr(C)]
 pub struct Fifo {
     pub held: u16,
+    // the place of the oldest sample; 0 where none is held
+    pub place: u16,
     // wide enough that the record has no padding
     pub ovf: u16,
 }
@@ -37,46 +39,66 @@ fn bits_of(memory: &[u16], at: usize, n: usize) -> u16
     bits
 }
 
-// Whether every place from `from` on is 0, where these are `n` to 2 `n` places: the first `n` of them and the last `n`, which may overlap.
-fn ends_are_zero(memory: &[u16], from: usize, n: usize) -> bool
-    requires { ⌜ (length (now memory) ≡ 512) × (from + n ≤ 512) × (512 ≤ from + 2 * n) ⌝ }
-    ensures { λ r. ⌜ r ≡ zeros (drop from (now (memory .entry))) ⌝ }
+// Whether `count` places from `from` on are 0, where these are `n` to 2 `n`: the first `n` of them and the last `n`, which may overlap.
+fn ends_are_zero(memory: &[u16], from: usize, count: usize, n: usize) -> bool
+    requires { ⌜ (from + count ≤ length (now memory)) × (length (now memory) ≡ 512) × (n ≤ count) × (count ≤ 2 * n) ⌝ }
+    ensures { λ r. ⌜ r ≡ zeros (take count (drop from (now (memory .entry)))) ⌝ }
 {
-    bits_of(memory, from, n) | bits_of(memory, 512 - n, n) == 0
+    bits_of(memory, from, n) | bits_of(memory, from + count - n, n) == 0
 }
 
-// Whether every place from `from` on is 0: blocks of fixed length, which take few instructions, where there are more than 8.
-fn are_zero(memory: &[u16], from: usize) -> bool
-    requires { ⌜ (length (now memory) ≡ 512) × (from ≤ 512) ⌝ }
-    ensures { λ r. ⌜ r ≡ zeros (drop from (now (memory .entry))) ⌝ }
+// Whether `count` places from `from` on are 0: blocks of fixed length, which take few instructions, where there are more than 8.
+fn are_zero(memory: &[u16], from: usize, count: usize) -> bool
+    requires { ⌜ (length (now memory) ≡ 512) × (from + count ≤ 512) ⌝ }
+    ensures { λ r. ⌜ r ≡ zeros (take count (drop from (now (memory .entry)))) ⌝ }
 {
-    if from < 448 {
-        if from < 256 {
-            ends_are_zero(memory, from, 256)
-        } else if from < 384 {
-            ends_are_zero(memory, from, 128)
+    if count > 64 {
+        if count > 256 {
+            ends_are_zero(memory, from, count, 256)
+        } else if count > 128 {
+            ends_are_zero(memory, from, count, 128)
         } else {
-            ends_are_zero(memory, from, 64)
+            ends_are_zero(memory, from, count, 64)
         }
-    } else if from < 504 {
-        if from < 480 {
-            ends_are_zero(memory, from, 32)
-        } else if from < 496 {
-            ends_are_zero(memory, from, 16)
+    } else if count > 8 {
+        if count > 32 {
+            ends_are_zero(memory, from, count, 32)
+        } else if count > 16 {
+            ends_are_zero(memory, from, count, 16)
         } else {
-            ends_are_zero(memory, from, 8)
+            ends_are_zero(memory, from, count, 8)
         }
     } else {
-        bits_of(memory, from, 512 - from) == 0
+        bits_of(memory, from, count) == 0
     }
 }
 
-// Whether this is a working board's sample memory.
+// Whether there is such a place, and every place is 0 from `held` places behind it on, round to it: one stretch or two.
+fn free_are_zero(memory: &[u16], place: usize, held: usize) -> bool
+    requires { ⌜ (length (now memory) ≡ 512) × (held ≤ 512) ⌝ }
+    ensures { λ r. ⌜ r ≡ ltb place 512 && zeros (drop held (turned place (now (memory .entry)))) ⌝ }
+{
+    if place == 0 {
+        are_zero(memory, held, 512 - held)
+    } else if 512 <= place {
+        false
+    } else if place + held < 512 {
+        are_zero(memory, place + held, 512 - (place + held)) & are_zero(memory, 0, place)
+    } else {
+        are_zero(memory, place + held - 512, 512 - held)
+    }
+}
+
+// Whether this is a working board's sample memory. OVF is 0, or 1 at 512 held.
 pub fn is_working(f: Fifo, memory: &[u16]) -> bool
     ensures { λ r. ⌜ r ≡ isWorkingFifo f (now (memory .entry)) ⌝ }
 {
-    if (memory.len() == 512) & (f.held <= 512) {
-        (f.ovf <= 1) & ((f.ovf != 1) | (f.held == 512)) & are_zero(memory, f.held as usize)
+    if (memory.len() == 512) & (f.held <= 512) & (f.ovf <= f.held / 512) {
+        if f.held == 0 {
+            (f.place == 0) & (bits_of(memory, 0, 512) == 0)
+        } else {
+            free_are_zero(memory, f.place as usize, f.held as usize)
+        }
     } else {
         false
     }
@@ -90,7 +112,8 @@ pub fn oldest(f: Fifo, memory: &[u16]) -> OldestSample
     if f.held == 0 {
         return OldestSample::NoneHeld;
     }
-    OldestSample::Sample(memory[0])
+    let place = f.place;
+    OldestSample::Sample(memory[place as usize])
 }
 
 // The low byte of the oldest sample; FF where none is held.
@@ -120,31 +143,31 @@ pub fn push(f: Fifo, memory: &mut [u16], sample: u16) -> Fifo
 {
     let held = f.held;
     if held < 512 {
-        memory[held as usize] = sample;
+        let next = (f.place + held) % 512;
+        memory[next as usize] = sample;
         Fifo {
             held: held + 1,
+            place: f.place,
             ovf: f.ovf,
         }
     } else {
-        Fifo { held, ovf: 1 }
+        Fifo {
+            held,
+            place: f.place,
+            ovf: 1,
+        }
     }
 }
 
-// The first place's number goes, the other held ones move down by a place, and the last of these becomes 0.
-fn move_down(memory: &mut [u16], held: usize)
-    requires { ⌜ (0 < held) × (held ≤ length (now memory)) ⌝ }
-    ensures { λ _. ⌜ now (memory .exit) ≡ movedDown held (now (memory .entry)) ⌝ }
+// The place of the oldest sample once one has left.
+fn place_after(f: Fifo) -> u16
+    requires { ⌜ f .place ≤ 511 ⌝ }
+    ensures { λ r. ⌜ r ≡ placeAfter f ⌝ }
 {
-    let mut i: usize = 0;
-    while i + 1 < held {
-        let v = memory[i + 1];
-        memory[i] = v;
-        i += 1;
-    }
-    memory[i] = 0;
+    if f.held == 1 { 0 } else { (f.place + 1) % 512 }
 }
 
-// A sample is read: the oldest leaves, and OVF clears. Where none is held, nothing changes.
+// A sample is read: the oldest leaves, its place becomes 0, and OVF clears. Where none is held, nothing changes.
 pub fn pop(f: Fifo, memory: &mut [u16]) -> Fifo
     requires { ⌜ WorkingFifo f (now memory) ⌝ }
     ensures { λ r. ⌜ Leaves (poppedFrom f) (popped (queue f (now (memory .entry)))) r (now (memory .exit)) ⌝ }
@@ -153,18 +176,24 @@ pub fn pop(f: Fifo, memory: &mut [u16]) -> Fifo
     if held == 0 {
         return f;
     }
-    move_down(memory, held as usize);
-    let mut next = f;
-    next.held = held - 1;
-    next.ovf = 0;
-    next
+    let place = f.place;
+    memory[place as usize] = 0;
+    Fifo {
+        held: held - 1,
+        place: place_after(f),
+        ovf: 0,
+    }
 }
 
 // The record of a memory that holds nothing.
 pub fn empty() -> Fifo
     ensures { λ r. ⌜ r ≡ emptyFifo ⌝ }
 {
-    Fifo { held: 0, ovf: 0 }
+    Fifo {
+        held: 0,
+        place: 0,
+        ovf: 0,
+    }
 }
 
 // A FIFO reset, or a board's: whatever the 512 places hold, no sample is held afterwards.

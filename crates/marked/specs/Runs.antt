@@ -19,7 +19,7 @@ use Rattle.board_events.specs.declared.Event.{Event}
 use Rattle.board_events.specs.declared.Event.the-variants.{WriteByte, ConversionEnd, Tick}
 use Rattle.collector_settings.specs.declared.Settings.{Settings}
 
--- a fresh board, jumpers A, mid-scale, with fresh stores; `layout` is the memory that holds these samples, from place 0 on, its free places 0
+-- a fresh board, jumpers A, mid-scale, with fresh stores; `layout` is the memory that holds these samples, here from place 0 on, its free places 0
 abbrev pub fresh : State
 fresh = freshState A false
 

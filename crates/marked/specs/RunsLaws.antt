@@ -36,9 +36,11 @@ full-works samples l =
                 record {
                   long = length-layout fullFifo samples (omega arith);
                   held = omega arith;
+                  place = omega arith;
+                  empty = λ e. refl;
                   flag = omega arith;
                   ovf = λ e. refl;
-                  laid = ap (layout fullFifo) (sym (queue-layout fullFifo samples l));
+                  laid = ap (layout fullFifo) (sym (queue-layout fullFifo samples l (omega arith) (omega arith)));
                 };
           };
       long = refl;
@@ -106,5 +108,7 @@ pub full-holds : (samples : List ℕ) → length samples ≡ 512 → Holds (full
 full-holds samples l =
     record {
       works = full-works samples l;
-      held = ap (λ (q : List ℕ). record { board = full samples .board; samples = q; eeprom = full samples .eeprom }) (queue-layout fullFifo samples l);
+      held =
+          ap (λ (q : List ℕ). record { board = full samples .board; samples = q; eeprom = full samples .eeprom })
+          (queue-layout fullFifo samples l (omega arith) (omega arith));
     }

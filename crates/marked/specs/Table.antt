@@ -60,7 +60,7 @@ pub record Marked : Type 0 where
       → answers (full (oldest ∷ others)) (ReadByte 7 ∷ WriteByte 0 0 ∷ ConversionEnd (pos 1) ∷ ReadByte 7 ∷ ReadWord 0 ∷ [])
       ≡ Byte 0x60 ∷ Done ∷ Done ∷ Byte 0x70 ∷ Word oldest ∷ []
   pub case-2-held : (samples : List ℕ) → length samples ≡ 512
-      → afterEvents (full samples) (WriteByte 0 0 ∷ ConversionEnd (pos 1) ∷ ReadWord 0 ∷ []) .board .fifo ≡ record { held = 511; ovf = 0 }
+      → afterEvents (full samples) (WriteByte 0 0 ∷ ConversionEnd (pos 1) ∷ ReadWord 0 ∷ []) .board .fifo ≡ record { held = 511; place = 1; ovf = 0 }
   -- 3. Channels 3-5, five conversions: 3,4,5,3,4; selected 5
   pub case-3 : shownAfter channel (afterEvents fresh (range 3 5)) (beginnings 5) ≡ 3 ∷ 4 ∷ 5 ∷ 3 ∷ 4 ∷ []
   pub case-3-selected : afterEvents fresh (range 3 5 ++ conversions 5) .board .converter .selected ≡ 5

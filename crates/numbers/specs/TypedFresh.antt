@@ -83,7 +83,7 @@ requests-held =
     )
 
 fifo-held : Is fifo.the-row (fresh .fifo) (vals fifo.the-type fifoᴸ.the-laws (fresh .fifo))
-fifo-held = owes fifo.the-type fifoᴸ.the-laws (fresh .fifo) ((refl, lit< tt), ((refl, lit< tt), tt))
+fifo-held = owes fifo.the-type fifoᴸ.the-laws (fresh .fifo) ((refl, lit< tt), ((refl, lit< tt), ((refl, lit< tt), tt)))
 
 registers-held : Is registers.the-row (fresh .registers) (vals registers.the-type registersᴸ.the-laws (fresh .registers))
 registers-held = owes registers.the-type registersᴸ.the-laws (fresh .registers) ((refl, lit< tt), ((refl, lit< tt), ((refl, lit< tt), ((refl, lit< tt), tt))))

@@ -181,7 +181,7 @@ oldest-below f m w s = by (eqb (f .held) 0) refl
   where
     by : (t : Bool) → eqb (f .held) 0 ≡ t → Below (oldestOf (queue f m))
     by true e = subst Below (oldest-none f m (eqb-true (f .held) 0 e)) (omega arith)
-    by false e = subst Below (oldest-some f m w (eqb-false (f .held) 0 e)) (s 0)
+    by false e = subst Below (oldest-some f m w (eqb-false (f .held) 0 e)) (s (f .place))
 
 -- ---- the byte of any place, the oldest sample being o
 place-below : (b : Board) (o : OldestSample) (p : Place) → Recorded b → Below o → byteAt b o p < 65536

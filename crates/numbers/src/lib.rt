@@ -2,11 +2,12 @@
 ghost use mathlib.Core.Path.{_≡_};
 ghost use Rattle.board_stores.specs.Stores.{freshMemory, freshEeprom, storesAnswer};
 ghost use Rattle.numbers_answers.specs.Packed.{answerNumber};
-ghost use Rattle.numbers.specs.Outcomes.{numberedOf};
+ghost use Rattle.numbers.specs.Outcomes.{numberedOf, wordNumbered};
 ghost use Rattle.numbers.specs.Boards.{byteOrAll, freshOf};
 use board::Board;
 use board::Jumpers;
 use board::Outcome;
+use fifo::Fifo;
 use numbers_collector::TakenAnswer;
 
 pub mod stepping; // an event of each kind
@@ -17,6 +18,13 @@ pub mod turning; // one turn of the collector on the board
 #[repr(C)]
 pub struct Numbered {
     pub board: Board,
+    pub number: u32,
+}
+
+// The sample memory's record after a word read, and its answer as one number.
+#[repr(C)]
+pub struct WordNumbered {
+    pub fifo: Fifo,
     pub number: u32,
 }
 
@@ -49,6 +57,18 @@ fn in_numbers(out: Outcome) -> Numbered
     let answer = out.answer;
     Numbered {
         board: after,
+        number: numbers_answers::number_of(answer),
+    }
+}
+
+// What a word read answers, with the answer as a number.
+fn word_in_numbers(out: Outcome) -> WordNumbered
+    ensures { λ r. ⌜ r ≡ wordNumbered out ⌝ }
+{
+    let after = out.board.fifo;
+    let answer = out.answer;
+    WordNumbered {
+        fifo: after,
         number: numbers_answers::number_of(answer),
     }
 }

@@ -1,10 +1,11 @@
 // One event of each kind, by value, with its answer as a number: what the exported functions over a lent board call.
 use super::Numbered;
+use super::WordNumbered;
 use board::Board;
 use board::Port;
 ghost use mathlib.Core.Path.{_≡_};
 ghost use Rattle.board_step.specs.Step.{stepOf, memoryAfter, eepromAfter};
-ghost use Rattle.numbers.specs.Outcomes.{numberedOf};
+ghost use Rattle.numbers.specs.Outcomes.{numberedOf, wordNumbered};
 ghost use Rattle.board_events.specs.declared.Event.the-variants.{WriteByte, ReadByte, ReadWord, ConversionEnd, DinPins, LatchLevel, PortPins, Tick};
 ghost use Rattle.board_events.specs.declared.Event.the-variants.{TransferEnd};
 
@@ -32,13 +33,13 @@ pub fn read_byte(board: Board, memory: &mut [u16], eeprom: &mut [u8], offset: u3
     super::in_numbers(board::read_byte(board, memory, eeprom, offset))
 }
 
-// The guest reads a word at an offset.
-pub fn read_word(board: Board, memory: &mut [u16], eeprom: &mut [u8], offset: u32) -> Numbered
-    ensures { λ r. ⌜ r ≡ numberedOf (stepOf board (now (memory .entry)) (now (eeprom .entry)) (ReadWord offset)) ⌝ }
+// The guest reads a word at an offset. Of the record comes back the one part that can change.
+pub fn read_word(board: Board, memory: &mut [u16], eeprom: &mut [u8], offset: u32) -> WordNumbered
+    ensures { λ r. ⌜ r ≡ wordNumbered (stepOf board (now (memory .entry)) (now (eeprom .entry)) (ReadWord offset)) ⌝ }
     ensures { λ r. ⌜ now (memory .exit) ≡ memoryAfter board (now (memory .entry)) (now (eeprom .entry)) (ReadWord offset) ⌝ }
     ensures { λ r. ⌜ now (eeprom .exit) ≡ eepromAfter board (now (memory .entry)) (now (eeprom .entry)) (ReadWord offset) ⌝ }
 {
-    super::in_numbers(board::read_word(board, memory, eeprom, offset))
+    super::word_in_numbers(board::read_word(board, memory, eeprom, offset))
 }
 
 // The conversion in progress ends with a signed code.

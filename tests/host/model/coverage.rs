@@ -1,23 +1,20 @@
 //! What a run has reached, counted by name.
 
+use crate::circle;
 use crate::compare::Outcome;
 use crate::counter::Mode;
 use crate::damage::Damages;
-use crate::event::{refusal, Answer, Event};
+use crate::event::Event;
 use crate::pages::{commands_in, transfer_of, NO_TRANSFER};
 use crate::record::Board;
 use crate::step::Step;
+use crate::words;
 use std::collections::BTreeMap;
 
-/// What a run must reach besides the refusals and the damaged fields.
-const MUST_BE_REACHED: [&str; 49] = [
+/// What a run must reach besides word reads, places on the circle, refusals and damaged fields.
+const MUST_BE_REACHED: [&str; 44] = [
     "512 held",
     "OVF set",
-    "word read of an empty memory",
-    "word read of an empty memory during a conversion",
-    "word read of a sample of FFFF",
-    "word read of the last sample, FFFF",
-    "word read elsewhere of an empty memory",
     "an end in mid-scan",
     "low above high at a conversion",
     "EEPROM read begun, with key",
@@ -80,11 +77,17 @@ impl Coverage {
         }
     }
 
+    fn reach_all<const N: usize>(&mut self, names: [&'static str; N], reached: [bool; N]) {
+        for (name, reached) in names.into_iter().zip(reached) {
+            self.reach(name, reached);
+        }
+    }
+
     /// Counts a step with the board before its event and after.
     pub fn count(&mut self, step: &Step, outcome: &Outcome, after: &Board) {
         self.events += 1;
         let before = &outcome.before;
-        self.reach_words(&step.event, before, outcome.answer);
+        self.reach_all(words::MUST_BE_REACHED, words::reached(&step.event, before, outcome.answer));
         if outcome.answer >> 29 == 3 {
             let refusal = outcome.answer >> 24 & 31;
             self.refusals[refusal as usize] += 1;
@@ -115,25 +118,9 @@ impl Coverage {
         }
     }
 
-    fn reach_words(&mut self, event: &Event, before: &Board, answer: u32) {
-        if let Event::ReadWord { offset } = *event {
-            let empty = before.fifo.held == 0;
-            let nothing = answer == Answer::Nothing.number();
-            debug_assert!(!nothing || empty);
-            let converts = before.converter.converting == 1;
-            self.reach("word read of an empty memory", nothing);
-            self.reach("word read of an empty memory during a conversion", nothing && converts);
-            let all_ones = answer == Answer::Word(0xFFFF).number();
-            let last = all_ones && before.fifo.held == 1;
-            self.reach("word read of a sample of FFFF", all_ones);
-            self.reach("word read of the last sample, FFFF", last);
-            let refused = answer == Answer::Refused(refusal::OFFSET).number();
-            self.reach("word read elsewhere of an empty memory", refused && empty && offset != 0);
-        }
-    }
-
     fn reach_samples(&mut self, event: &Event, before: &Board, after: &Board) {
         let emptied = before.fifo.held > 0 && after.fifo.held == 0;
+        self.reach_all(circle::MUST_BE_REACHED, circle::reached(event, before, after));
         self.reach("512 held", before.fifo.held != 512 && after.fifo.held == 512);
         self.reach("OVF set", before.fifo.ovf < after.fifo.ovf);
         match *event {
@@ -251,7 +238,8 @@ impl Coverage {
     pub fn report(&self) -> bool {
         println!("{} events", self.events);
         let mut counts: Vec<(String, u64)> = Vec::new();
-        for name in MUST_BE_REACHED {
+        let of_samples = words::MUST_BE_REACHED.into_iter().chain(circle::MUST_BE_REACHED);
+        for name in MUST_BE_REACHED.into_iter().chain(of_samples) {
             counts.push((name.to_string(), *self.reached.get(name).unwrap_or(&0)));
         }
         for refusal in 1..=10 {

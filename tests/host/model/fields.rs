@@ -41,7 +41,7 @@ macro_rules! number {
 }
 
 /// The fields outside the counters.
-pub static BOARD_FIELDS: [Field<Board>; 50] = [
+pub static BOARD_FIELDS: [Field<Board>; 51] = [
     number!(Ranged, converter.low),
     number!(Ranged, converter.high),
     number!(Ranged, converter.selected),
@@ -59,6 +59,7 @@ pub static BOARD_FIELDS: [Field<Board>; 50] = [
     number!(Flag, requests.flags.dint),
     number!(Flag, requests.flags.tint),
     number!(Ranged, fifo.held),
+    number!(Ranged, fifo.place),
     number!(BoundFlag, fifo.ovf),
     number!(Ranged, registers.page),
     number!(Ranged, registers.dout),

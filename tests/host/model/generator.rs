@@ -3,6 +3,7 @@
 use crate::event::Event;
 use crate::fields::{field_kind, field_number, Kind, FIELD_COUNT};
 use crate::random::Random;
+use crate::record::Fifo;
 use crate::step::{Change, Lent, Start, Step, EEPROM_ROOM, MEMORY_ROOM};
 use crate::uses::{Use, User};
 use crate::working::{is_working, EEPROM_LENGTH, MEMORY_LENGTH};
@@ -101,13 +102,36 @@ impl Generator {
         Change::Field { field, value: self.any_value(field) }
     }
 
+    /// Any place of the sample memory, often the one behind the newest sample or before the oldest.
+    fn some_place(&mut self, fifo: &Fifo) -> usize {
+        let (held, place) = (usize::from(fifo.held), usize::from(fifo.place));
+        match self.random.below(4) {
+            0 => (place + held) % MEMORY_LENGTH,
+            1 => (place + MEMORY_LENGTH - 1) % MEMORY_LENGTH,
+            _ => self.random.below(MEMORY_LENGTH as u32) as usize,
+        }
+    }
+
+    /// So many samples, standing anywhere on the circle, often round its end.
+    fn held_somewhere(&mut self, held: u16) -> Change {
+        let length = MEMORY_LENGTH as u32;
+        let place = match self.random.below(4) {
+            _ if held == 0 => 0,
+            0 => 0,
+            1 => length - 1,
+            2 => (length - self.random.below(u32::from(held))) % length,
+            _ => self.random.below(length),
+        };
+        Change::Held { held, place: place as u16, first: self.random.word() }
+    }
+
     /// A change after which the board does not work: a field out of its range, or a free place not 0.
     fn damage(&mut self, step: &mut Step, lent: &Lent) {
         let in_memory = self.random.once_in(8);
         let field = self.any_field();
         for _ in 0..DRAWS {
             let change = if in_memory {
-                let place = self.random.below(MEMORY_LENGTH as u32) as usize;
+                let place = self.some_place(&lent.board.fifo);
                 Change::Place { place, value: 1 << self.random.below(16) }
             } else if field_kind(field) == Kind::Any {
                 return;
@@ -161,20 +185,25 @@ impl Generator {
 
     /// Other contents of the sample memory or the EEPROM.
     fn rearrange_memories(&mut self, step: &mut Step, lent: &Lent) {
+        let fifo = &lent.board.fifo;
         let change = match self.random.below(6) {
             0 | 1 => Change::EepromByte {
                 address: self.random.pick(&[0, 1, 7, 8, 100, EEPROM_LENGTH - 1]),
                 value: self.random.byte(),
             },
-            2 if lent.board.fifo.held > 0 => Change::Place {
-                place: self.random.below(u32::from(lent.board.fifo.held)) as usize,
-                value: self.random.word(),
-            },
-            3 => Change::Held { held: self.random.below(513) as u16, first: self.random.word() },
-            _ => Change::Held {
-                held: self.random.pick(&[0, 1, 2, 254, 255, 256, 257, 509, 510, 511, 512]),
-                first: self.random.word(),
-            },
+            2 if fifo.held > 0 => {
+                let number = self.random.below(u32::from(fifo.held)) as usize;
+                let place = (usize::from(fifo.place) + number) % MEMORY_LENGTH;
+                Change::Place { place, value: self.random.word() }
+            }
+            3 => {
+                let held = self.random.below(513) as u16;
+                self.held_somewhere(held)
+            }
+            _ => {
+                let held = self.random.pick(&[0, 1, 2, 254, 255, 256, 257, 509, 510, 511, 512]);
+                self.held_somewhere(held)
+            }
         };
         step.changes = vec![change];
     }

@@ -8,6 +8,7 @@
 mod board;
 mod bus;
 mod bytes;
+mod circle;
 mod compare;
 mod counter;
 mod coverage;
@@ -25,6 +26,7 @@ mod shrink;
 mod step;
 mod timing;
 mod uses;
+mod words;
 mod working;
 
 use compare::Pair;

@@ -36,11 +36,12 @@ pub struct Requests {
     pub flags: Flags,
 }
 
-/// The state of the sample memory.
+/// The state of the sample memory: how many samples are held, the place of the oldest, OVF.
 #[repr(C)]
 #[derive(Clone, Copy, Debug, Default, PartialEq, Eq)]
 pub struct Fifo {
     pub held: u16,
+    pub place: u16,
     pub ovf: u16,
 }
 
@@ -196,7 +197,7 @@ pub struct Board {
 }
 
 /// Bytes in a record.
-pub const RECORD_LENGTH: usize = 114;
+pub const RECORD_LENGTH: usize = 116;
 
 impl Board {
     /// The record that has these bytes. It has no padding, and any number may stand in each field.

@@ -1,4 +1,4 @@
-//! Conversions, scans and the sample memory.
+//! Conversions, scans and the sample memory, a circle in which place 0 follows place 511.
 
 use crate::record::Board;
 use crate::working::MEMORY_LENGTH;
@@ -36,9 +36,9 @@ impl Board {
     }
 
     fn keep_or_lose(&mut self, memory: &mut [u16], sample: u16) {
-        let held = usize::from(self.fifo.held);
+        let (held, place) = (usize::from(self.fifo.held), usize::from(self.fifo.place));
         if held < MEMORY_LENGTH {
-            memory[held] = sample;
+            memory[(place + held) % MEMORY_LENGTH] = sample;
             self.fifo.held += 1;
         } else {
             self.fifo.ovf = 1;
@@ -56,24 +56,28 @@ impl Board {
         if self.fifo.held == 0 {
             0xFFFF
         } else {
-            memory[0]
+            memory[usize::from(self.fifo.place)]
         }
     }
 
-    /// The oldest sample leaves, the rest moves down, OVF clears.
+    /// The oldest sample leaves and its place becomes 0; the next is the oldest, or, where none
+    /// is held any more, the place is 0. OVF clears.
     pub fn take_oldest(&mut self, memory: &mut [u16]) {
         if self.fifo.held == 0 {
             return;
         }
-        memory.copy_within(1.., 0);
-        memory[MEMORY_LENGTH - 1] = 0;
+        let place = usize::from(self.fifo.place);
+        memory[place] = 0;
         self.fifo.held -= 1;
+        let next = ((place + 1) % MEMORY_LENGTH) as u16;
+        self.fifo.place = if self.fifo.held == 0 { 0 } else { next };
         self.fifo.ovf = 0;
     }
 
     pub fn empty_memory(&mut self, memory: &mut [u16]) {
         memory.fill(0);
         self.fifo.held = 0;
+        self.fifo.place = 0;
         self.fifo.ovf = 0;
     }
 }

@@ -2,7 +2,7 @@
 
 use crate::event::Event;
 use crate::fields::{field_name, set_field};
-use crate::record::{fresh, Board};
+use crate::record::{fresh, Board, Fifo};
 use crate::working::{EEPROM_LENGTH, MEMORY_LENGTH};
 use std::fmt;
 
@@ -48,8 +48,8 @@ pub enum Change {
     Place { place: usize, value: u16 },
     /// A byte of the EEPROM takes a value.
     EepromByte { address: usize, value: u8 },
-    /// The sample memory holds so many samples, without OVF.
-    Held { held: u16, first: u16 },
+    /// The sample memory holds so many samples from a place on, without OVF.
+    Held { held: u16, place: u16, first: u16 },
 }
 
 impl Change {
@@ -58,13 +58,12 @@ impl Change {
             Change::Field { field, value } => set_field(&mut lent.board, field, value),
             Change::Place { place, value } => lent.memory[place] = value,
             Change::EepromByte { address, value } => lent.eeprom[address] = value,
-            Change::Held { held, first } => {
-                lent.board.fifo.held = held;
-                lent.board.fifo.ovf = 0;
-                for place in 0..MEMORY_LENGTH as u16 {
-                    let sample = first.wrapping_add(place.wrapping_mul(257));
-                    let held_here = place < held;
-                    lent.memory[usize::from(place)] = if held_here { sample } else { 0 };
+            Change::Held { held, place, first } => {
+                lent.board.fifo = Fifo { held, place, ovf: 0 };
+                for number in 0..MEMORY_LENGTH as u16 {
+                    let sample = first.wrapping_add(number.wrapping_mul(257));
+                    let at = usize::from(place + number) % MEMORY_LENGTH;
+                    lent.memory[at] = if number < held { sample } else { 0 };
                 }
             }
         }
@@ -77,8 +76,8 @@ impl fmt::Display for Change {
             Change::Field { field, value } => write!(out, "{} = {value}", field_name(field)),
             Change::Place { place, value } => write!(out, "memory[{place}] = {value}"),
             Change::EepromByte { address, value } => write!(out, "eeprom[{address}] = {value}"),
-            Change::Held { held, first } => {
-                write!(out, "memory holds {held}: {first}, and each next 257 more")
+            Change::Held { held, place, first } => {
+                write!(out, "memory holds {held} from {place} on: {first}, and each next 257 more")
             }
         }
     }

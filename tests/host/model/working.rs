@@ -39,10 +39,23 @@ pub fn control_byte_is_taken(control: u8) -> bool {
 }
 
 fn fifo_works(fifo: &Fifo, memory: &[u16]) -> bool {
-    let held = usize::from(fifo.held);
+    let (held, place) = (usize::from(fifo.held), usize::from(fifo.place));
     held <= MEMORY_LENGTH
+        && place < MEMORY_LENGTH
+        && (held > 0 || place == 0)
         && (fifo.ovf == 0 || fifo.ovf == 1 && held == MEMORY_LENGTH)
-        && memory[held..].iter().all(|&place| place == 0)
+        && free_places(held, place, memory).iter().all(|stretch| stretch.iter().all(|&n| n == 0))
+}
+
+/// The free places: the stretch from behind the newest sample to before the oldest, where the
+/// samples go round the end; else that behind the newest and that before the oldest.
+fn free_places(held: usize, place: usize, memory: &[u16]) -> [&[u16]; 2] {
+    let behind = place + held;
+    if behind > MEMORY_LENGTH {
+        [&memory[behind - MEMORY_LENGTH..place], &[]]
+    } else {
+        [&memory[behind..], &memory[..place]]
+    }
 }
 
 fn converter_works(converter: &Converter) -> bool {

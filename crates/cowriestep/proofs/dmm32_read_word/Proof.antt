@@ -1,6 +1,6 @@
--- `cowriestep::dmm32_read_word` meets its contract: a walk of its MIR to the call of `numbers::stepping::read_word`, and from there by Lending.antt.
+-- `cowriestep::dmm32_read_word` meets its contract: a walk of its MIR to the call of `numbers::stepping::read_word`, and from there by Storing.antt.
 -- Assumes nothing. Written by tools/walks.py, which says what shape the function has.
-use mathlib.Core.Path.{_≡_, refl, ap}
+use mathlib.Core.Path.{_≡_, refl, ap, _∙_}
 use Prim.Native.Nat.{ℕ, _<_, _^_}
 use mathlib.Core.List.{[], _∷_, List}
 use lib.ListN.{length}
@@ -36,13 +36,15 @@ use denote.Triple.Table.{entered, cited}
 use denote.Triple.Walked.{says, Stays, stay-ref, stay-none, gave-slice, walkOf, AllGo, goes-none, goes-ref, goes-gave-slice, Walks, ends-at, walked, walk-meets}
 use denote.Exit.{yes}
 use Rattle.machine_record.specs.declared.Board.{Board}
-use Rattle.numbers.specs.declared.Numbered.{Numbered}
-use Rattle.numbers.specs.Lengths.{refused2}
+use Rattle.machine_record.specs.Parts.{withFifo}
+use Rattle.numbers.specs.declared.WordNumbered.{WordNumbered}
+use Rattle.numbers.specs.Lengths.{refusedWord2}
+use Rattle.board_step.specs.Sampled.{word-read-keeps}
 use Rattle.board_events.specs.declared.Event.the-variants.{ReadWord}
 use Rattle.machine_record.proofs.Board as Boardᴿ
 use Rattle.machine_record.proofs.Board.Laws as Boardᴸ
-use Rattle.cowriestep.proofs.Lending as S
-use Rattle.cowriestep.proofs.Lending.{aval}
+use Rattle.cowriestep.proofs.Storing as S
+use Rattle.cowriestep.proofs.Storing.{aval}
 use Rattle.numbers.proofs.stepping.read_word as step
 use Rattle.numbers.proofs.stepping.read_word.Symbol as step-def
 use Rattle.numbers.proofs.stepping.read_word.Symbol.{name as #numbers·stepping·read-word}
@@ -116,17 +118,18 @@ module _ {M : Type 1} (𝓤 : URA M) (H : Heap 𝓤) (A : Atoms 𝓤) (W : Given
   steps : S.Steps 𝓤 H A W κ κm κe q qm qe x m e (ReadWord offset) (StepC 𝓤 H A at-mem run) to-step passed (λ (_ : Unit {0} × (Unit {0})). (fsep ftrue ftrue))
   steps = record { asked = qed W (S.toks 𝓤 H A W κ κm κe q qm qe x m e (ReadWord offset) ∷ passed ∷ []) ∵ join ! $ frame ! $ done !; given = λ v. id⊢ 𝓤 _ }
 
-  exits : (r : Numbered) (zm ze : List ℕ) → S.Known 𝓤 H A W κ κm κe q qm qe x m e (ReadWord offset) r zm ze
+  exits : (r : WordNumbered) (zm ze : List ℕ) → S.Known 𝓤 H A W κ κm κe q qm qe x m e (ReadWord offset) r zm ze
       → ent 𝓤 (⋆ 𝓤 H A (S.left 𝓤 H A W κ κm κe q qm qe x m e (ReadWord offset) r zm ze [])) (Post (aval r))
   exits r zm ze k =
       qed W (S.left 𝓤 H A W κ κm κe q qm qe x m e (ReadWord offset) r zm ze []) ∵
       suffices ! _
       (ends-at 𝓤 H A f.ended stayed (f.clauses 𝓤 H A at-mem run) W (((κ, (κm, (κe, tt))), (q, (qm, (qe, tt))), tt, a, at), tt) (aval r) (r .number)
-      (r .board, (zm, (ze, (tt, tt)))) (tt, (k .lm, (k .le, (tt, tt))))) $
+      (withFifo (x .now) (r .fifo), (zm, (ze, (tt, tt)))) (tt, (k .lm, (k .le, (tt, tt))))) $
       says !
       (record {
-        answer = ap (λ (y : Numbered). y .number) (k .said .0);
-        board = ap (λ (y : Numbered). y .board) (k .said .0);
+        answer = ap (λ (y : WordNumbered). y .number) (k .said .0);
+        board =
+            ap (λ (y : WordNumbered). withFifo (x .now) (y .fifo)) (k .said .0) ∙ word-read-keeps (x .now) (m .now) (e .now) offset;
         memory = k .said .1;
         eeprom =
             k .said .2;
@@ -174,7 +177,8 @@ module _ {M : Type 1} (𝓤 : URA M) (H : Heap 𝓤) (A : Atoms 𝓤) (W : Given
         (36 ∷ 37 ∷ 34 ∷ 35 ∷ 32 ∷ 33 ∷ 30 ∷ 31 ∷ 28 ∷ 29 ∷ 26 ∷ 27 ∷ 24 ∷ 25 ∷ 22 ∷ 23 ∷ 20 ∷ 21 ∷ 18 ∷ 19 ∷ 16 ∷ 17 ∷ 14 ∷ 15 ∷ 12 ∷ 13 ∷ 10 ∷ 11 ∷ 8 ∷ 9 ∷ 6
         ∷ 7 ∷ []) $
         S.gone ! $ S.gone ! $ S.gone ! $ S.gone ! $ S.gone ! $ free1 ! $ S.gone ! $ S.gone ! $ S.gone ! $ S.gone ! $ S.gone ! $ free1 ! $ free1 ! $ free1 !
-        $ free1 ! $ free1 ! $ free0 ! $ by ! (exits (refused2 (x .now)) (m .now) (e .now) (S.refused 𝓤 H A W κ κm κe q qm qe x m e (ReadWord offset) wrong)))
+        $ free1 ! $ free1 ! $ free0 ! $ by !
+        (exits (refusedWord2 (x .now)) (m .now) (e .now) (S.refused 𝓤 H A W κ κm κe q qm qe x m e (ReadWord offset) wrong)))
         (λ right.
         S.opened 𝓤 H A W κ κm κe q qm qe x m e (ReadWord offset) ! tt (λ was.
         -- [cell; what the board owns; obor; obs; auth; toks; what the other parameters own; _15 (7); …; room for _0 (37); …]
@@ -197,7 +201,7 @@ module _ {M : Type 1} (𝓤 : URA M) (H : Heap 𝓤) (A : Atoms 𝓤) (W : Given
         move ! (1 ∷ 0 ∷ []) $ fjoin ! $ move ! (1 ∷ 0 ∷ []) $ fjoin ! $ move ! (2 ∷ 0 ∷ []) $ fjoin ! $ move ! (5 ∷ 0 ∷ 1 ∷ 2 ∷ 3 ∷ 4 ∷ 26 ∷ 36 ∷ 34 ∷ []) $
         S.recoded ! call-is $ S.drives 𝓤 H A W κ κm κe q qm qe x m e (ReadWord offset) {f = #numbers·stepping·read-word}
         {xs = (copy (place 11 []) ∷ copy (place 13 []) ∷ copy (place 15 []) ∷ copy (place 4 []) ∷ [])} {io = 5} ! fm (StepC 𝓤 H A at-mem run) known to-step
-        steps l₅ refl
+        steps l₅ refl was
         (and-then ! (load ! (from ! (stop !)) (look ! 16 refl))
         (and-then ! (load ! (from ! (stop !)) (look ! 12 refl))
         (and-then ! (load ! (from ! (stop !)) (look ! 8 refl)) (and-then ! (load ! (from ! (stop !)) (look ! 29 refl)) (no-more !))))) (λ r zm ze k.

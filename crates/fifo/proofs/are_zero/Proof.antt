@@ -1,6 +1,5 @@
 -- `fifo::are_zero` meets its contract. Assumes nothing.
 use borrow.Author.Needs.{needs}
-use Rattle.fifo.proofs.Zeros.{rest-zero}
 use Rattle.fifo.proofs.are_zero.Statement.{statement}
 use Rattle.fifo.proofs.are_zero.Tie as tie
 
@@ -14,7 +13,6 @@ are-zero-spec =
     (λ c κs. search needs)
     (λ c κs. search needs)
     (λ c κs. search needs)
-    (λ c. search needs)
     (λ c κs. search needs)
     (λ c. c .ends-are-zero .ensures)
     (λ c. c .ends-are-zero2 .ensures)
@@ -22,5 +20,5 @@ are-zero-spec =
     (λ c. c .ends-are-zero4 .ensures)
     (λ c. c .ends-are-zero5 .ensures)
     (λ c. c .ends-are-zero6 .ensures)
-    (λ c. let s = c .before .before .before .before in rest-zero (s .args .memory .now) (s .args .from) (c .bits-of .result) (s .pre .0) (c .bits-of .ensures))
+    (λ c. c .bits-of .ensures)
     in tie.close met

@@ -10,5 +10,7 @@ oldest-spec =
     tie.spec
     (λ c. oldest-none _ _ (c .if1 .taken))
     (λ c. search needs)
+    (λ c. search needs)
+    (λ c. search needs)
     (λ c. oldest-some _ _ (c .before .before .before .pre) (c .before .if1 .left))
     in tie.close met

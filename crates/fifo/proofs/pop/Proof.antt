@@ -1,5 +1,4 @@
 -- `fifo::pop` meets its contract. Assumes nothing.
-use mathlib.Core.Path.{_∙_}
 use borrow.Author.Needs.{needs}
 use Rattle.fifo.specs.Queue.Steps.{pop-none, pop-some}
 use Rattle.fifo.proofs.pop.Statement.{statement}
@@ -11,10 +10,12 @@ pop-spec =
     tie.spec
     (λ c. pop-none _ _ (c .before .before .pre) (c .if1 .taken))
     (λ c. search needs)
+    (λ c. search needs)
+    (λ c. search needs)
+    (λ c. search needs)
     (λ c κs. search needs)
     (λ c. search needs)
-    (λ c. search needs)
     (λ c.
-    let s = pop-some _ _ (c .before .before .before .before .before .before .pre) (c .before .before .before .before .if1 .left) in
-    record { fifo = s .fifo; laid = c .before .before .move-down .ensures ∙ s .laid })
+    let s = pop-some _ _ (c .before .before .before .pre) (c .before .if1 .left) in
+    record { fifo = rw (c .place-after .ensures) (s .fifo); laid = s .laid })
     in tie.close met

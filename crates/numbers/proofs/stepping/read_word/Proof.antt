@@ -1,6 +1,6 @@
 -- `numbers::stepping::read_word` meets its contract. Assumes nothing.
 use borrow.Author.Needs.{needs}
-use Rattle.numbers.proofs.Arms.{in-numbers}
+use Rattle.numbers.proofs.Arms.{word-in-numbers}
 use Rattle.numbers.proofs.stepping.read_word.Statement.{statement}
 use Rattle.numbers.proofs.stepping.read_word.Tie as tie
 
@@ -12,5 +12,5 @@ read-word-spec =
     (λ c κs. search needs)
     (λ c. search needs)
     (λ c. search needs)
-    (λ c. in-numbers (c .in-numbers .ensures) (c .before .before .before .before .before .read-word .ensures))
+    (λ c. word-in-numbers (c .word-in-numbers .ensures) (c .before .before .before .before .before .read-word .ensures))
     in tie.close met
