@@ -1,4 +1,4 @@
-/* The functions of bench/baseline.c: those of include/cowriestep.h for fresh boards and events, but for the prefix of their names. */
+/* The functions of bench/baseline.c, baseline_step.c and baseline_tally.c: those of include/cowriestep.h, but for the prefix of their names. */
 #ifndef BASELINE_H
 #define BASELINE_H
 
@@ -26,9 +26,20 @@
     struct dmm32_advanced BOARD_EVENT(prefix##advance), uint32_t ticks);                                      \
     uint32_t BOARD_READ(prefix##ticks_until), uint32_t most)
 
+#define DECLARE_STEP(prefix) uint32_t BOARD_EVENT(prefix##step), struct dmm32_event event)
+#define DECLARE_TALLY(prefix)                                                                                 \
+    struct dmm32_tally TALLY_READ(prefix##note), struct dmm32_event event);                                   \
+    struct dmm32_tally TALLY_READ(prefix##note_ticks), uint32_t ticks);                                       \
+    bool prefix##tally_adds_up(struct dmm32_tally tally, struct dmm32_board first, struct dmm32_board now)
+#define TALLY_READ(name) name(struct dmm32_tally tally, struct dmm32_board board, const uint16_t *memory, size_t memory_length, const uint8_t *eeprom, size_t eeprom_length
+
 DECLARE_BASELINE(baseline_o2_);
 DECLARE_BASELINE(baseline_o3_);
 DECLARE_TIME(baseline_o2_time_);
 DECLARE_TIME(baseline_o3_time_);
+DECLARE_STEP(baseline_o2_step_);
+DECLARE_STEP(baseline_o3_step_);
+DECLARE_TALLY(baseline_o2_tally_);
+DECLARE_TALLY(baseline_o3_tally_);
 
 #endif

@@ -8,7 +8,8 @@
  *   host spans TIMES MOST    runs each span of ticks TIMES times over each of the three, but for those of more than MOST ticks
  *   host list_spans          prints the spans, one to a line: the function that makes the call, what the span is, how many calls make it, and its ticks
  *
- * Every call that is counted is made from a function of its own (`event_...`, `span_...`), so that callgrind's costs from that caller to that callee are the
+ * The events of the tally, and of the step of any kind, stand in bench/tally.c: COUNT random ones of these are compared too.
+ * Every call that is counted is made from a function of its own (`event_...`, `tally_...`, `span_...`), so that callgrind's costs from that caller to that callee are the
  * event's alone. Each begins at the same state, which is put back before it.
  */
 #include <inttypes.h>
@@ -16,54 +17,20 @@
 #include <stdlib.h>
 #include <string.h>
 
-#include "baseline.h"
-
-#define NOT_INLINED __attribute__((noinline))
-
-enum { PLACES = COWRIESTEP_MEMORY_LENGTH, EEPROM_BYTES = COWRIESTEP_EEPROM_LENGTH };
+#include "host.h"
 
 /* ---- three boards */
 
-struct state {
-    struct dmm32_board board;
-    uint16_t memory[PLACES];
-    uint8_t eeprom[EEPROM_BYTES];
-};
-
-#define LENT struct dmm32_board *, uint16_t *, size_t, uint8_t *, size_t
-#define KEPT const uint16_t *, size_t, const uint8_t *, size_t
-struct calls {
-    const char *name;
-    struct dmm32_board (*fresh)(uint32_t, uint32_t);
-    uint32_t (*fresh_stores)(uint16_t *, size_t, uint8_t *, size_t);
-    bool (*is_working)(struct dmm32_board, const uint16_t *, size_t);
-    uint32_t (*write_byte)(LENT, uint32_t, uint8_t);
-    uint32_t (*read_byte)(LENT, uint32_t);
-    uint32_t (*read_word)(LENT, uint32_t);
-    uint32_t (*conversion_end)(LENT, int16_t);
-    uint32_t (*din)(LENT, uint32_t);
-    uint32_t (*latch)(LENT, uint32_t);
-    uint32_t (*port_a_pins)(LENT, uint8_t);
-    uint32_t (*port_b_pins)(LENT, uint8_t);
-    uint32_t (*port_c_pins)(LENT, uint8_t);
-    uint32_t (*tick)(LENT);
-    struct dmm32_advanced (*advance)(LENT, uint32_t);
-    uint32_t (*ticks_until)(struct dmm32_board, KEPT, uint32_t);
-    uint32_t (*transfer_end)(LENT);
-};
-
-#define CALLS(name, prefix, time)                                                                                               \
+#define CALLS(name, prefix, time, any, tally)                                                                                   \
     {name, prefix##fresh, prefix##fresh_stores, prefix##is_working, prefix##write_byte, prefix##read_byte, prefix##read_word,   \
      prefix##conversion_end, prefix##din, prefix##latch, prefix##port_a_pins, prefix##port_b_pins, prefix##port_c_pins, prefix##tick,         \
-     time##advance, time##ticks_until, prefix##transfer_end}
+     time##advance, time##ticks_until, prefix##transfer_end, any##step, tally##note, tally##note_ticks, tally##tally_adds_up}
 
-enum { BOARDS = 3 };
-static const struct calls boards[BOARDS] = {CALLS("library", dmm32_, dmm32_), CALLS("baseline -O2", baseline_o2_, baseline_o2_time_),
-    CALLS("baseline -O3", baseline_o3_, baseline_o3_time_)};
+const struct calls boards[BOARDS] = {CALLS("library", dmm32_, dmm32_, dmm32_, dmm32_),
+    CALLS("baseline -O2", baseline_o2_, baseline_o2_time_, baseline_o2_step_, baseline_o2_tally_),
+    CALLS("baseline -O3", baseline_o3_, baseline_o3_time_, baseline_o3_step_, baseline_o3_tally_)};
 
 /* ---- the benchmark's events */
-
-#define STORES(s) &(s)->board, (s)->memory, PLACES, (s)->eeprom, EEPROM_BYTES
 
 static void write_to(struct state *s, uint8_t offset, uint8_t value)
 {
@@ -127,19 +94,19 @@ static void cascade(struct state *s, unsigned first, unsigned second)
     exit(1);
 }
 
-static void set_empty(struct state *s) { hold(s, 0); }
+void set_empty(struct state *s) { hold(s, 0); }
 static void set_1(struct state *s) { hold(s, 1); }
-static void set_256(struct state *s) { hold(s, 256); }
+void set_256(struct state *s) { hold(s, 256); }
 static void set_511(struct state *s) { hold(s, 511); }
 static void set_256_middle(struct state *s) { hold_from(s, 128, 256); }
 static void set_256_round(struct state *s) { hold_from(s, 384, 256); }
 static void set_converting_0(struct state *s) { hold(s, 0); write_to(s, 0, 0); }
-static void set_converting_511(struct state *s) { hold(s, 511); write_to(s, 0, 0); }
-static void set_counting(struct state *s) { cascade(s, 5, 5); }
+void set_converting_511(struct state *s) { hold(s, 511); write_to(s, 0, 0); }
+void set_counting(struct state *s) { cascade(s, 5, 5); }
 static void set_falling_1(struct state *s) { cascade(s, 2, 5); }
-static void set_falling_2(struct state *s) { cascade(s, 2, 2); }
+void set_falling_2(struct state *s) { cascade(s, 2, 2); }
 static void set_dacbusy(struct state *s) { hold(s, 0); write_to(s, 5, 0x48); }
-static void set_damaged(struct state *s) { hold(s, 0); s->memory[PLACES - 1] = 1; }
+void set_damaged(struct state *s) { hold(s, 0); s->memory[PLACES - 1] = 1; }
 
 /* function, set-up, the call, what it answers, what it is */
 #define EVENTS(X)                                                                                                                               \
@@ -167,16 +134,12 @@ static void set_damaged(struct state *s) { hold(s, 0); s->memory[PLACES - 1] = 1
     static NOT_INLINED uint32_t function(const struct calls *f, struct state *s) { return f->call; }
 EVENTS(DEFINE_EVENT)
 
-struct event {
-    const char *function;
-    void (*setup)(struct state *);
-    uint32_t (*run)(const struct calls *, struct state *);
-    uint32_t answer;
-    const char *what;
-};
 #define LIST_EVENT(function, setup, call, answer, what) {#function, setup, function, answer, what},
 static const struct event events[] = {EVENTS(LIST_EVENT)};
-enum { EVENT_COUNT = sizeof events / sizeof *events };
+enum { OWN_COUNT = sizeof events / sizeof *events, EVENT_COUNT = OWN_COUNT + NOTE_COUNT };
+
+/* Those that stand here, then those of the tally. */
+static const struct event *event_at(int e) { return e < OWN_COUNT ? &events[e] : &notes[e - OWN_COUNT]; }
 
 /* An event over the first `count` boards. */
 static void repeat(const struct event *event, int count, unsigned long times)
@@ -193,20 +156,20 @@ static void repeat(const struct event *event, int count, unsigned long times)
 static void measure(unsigned long times)
 {
     for (int e = 0; e < EVENT_COUNT; e++)
-        repeat(&events[e], BOARDS, times);
+        repeat(event_at(e), BOARDS, times);
 }
 
 static void single(const char *function, unsigned long times)
 {
     for (int e = 0; e < EVENT_COUNT; e++)
-        if (strcmp(events[e].function, function) == 0)
-            repeat(&events[e], 1, times);
+        if (strcmp(event_at(e)->function, function) == 0)
+            repeat(event_at(e), 1, times);
 }
 
 /* ---- spans of ticks */
 
 /* The answer of an advance with the ticks done as its number: these are fewer than 2^24 here. */
-static uint32_t as_number(struct dmm32_advanced a) { return a.answer + a.done; }
+uint32_t as_number(struct dmm32_advanced a) { return a.answer + a.done; }
 
 /* Counters 1 and 2 in mode 2, each with this count; Base + 10 and Base + 9 as given. */
 static void pace(struct state *s, unsigned count, uint8_t counting, uint8_t operation)
@@ -257,7 +220,8 @@ static void set_three_muted(struct state *s)
 }
 static void set_tens_muted(struct state *s) { pace(s, 10, 0, 0); }
 
-#define BORROWED(s) (s)->board, (s)->memory, PLACES, (s)->eeprom, EEPROM_BYTES
+/* The conversions that begin in so many ticks: one, where they are noted. */
+#define BEGUN(ticks) (uint32_t)f->note_ticks((struct dmm32_tally){0}, BORROWED(s), ticks).begun
 
 /* function, set-up, the call, how many of them make the span, the ticks of each, what it is */
 #define SPANS(X)                                                                                                                                             \
@@ -270,7 +234,9 @@ static void set_tens_muted(struct state *s) { pace(s, 10, 0, 0); }
     X(span_tens_slow, set_tens_slow, as_number(f->advance(STORES(s), 100000)), 1, 10000, "advance: 100 kHz, counts of 10, from a conversion to the next")         \
     X(span_second, set_thousands, as_number(f->advance(STORES(s), 10000000)), 10, 1000000, "advance: 10 MHz, counts of 1,000, a second: ten conversions")         \
     X(span_until, set_thousands, f->ticks_until(BORROWED(s), 10000000), 1, 1000000, "ticks_until: 10 MHz, counts of 1,000, from a conversion to the next")        \
-    X(span_until_muted, set_tens_muted, f->ticks_until(BORROWED(s), 100000), 1, 100000, "ticks_until: 10 MHz, counts of 10, no CLKEN")
+    X(span_until_muted, set_tens_muted, f->ticks_until(BORROWED(s), 100000), 1, 100000, "ticks_until: 10 MHz, counts of 10, no CLKEN")                           \
+    X(span_note_tens, set_tens, BEGUN(1000) * 100, 1, 100, "note_ticks: 10 MHz, counts of 10, from a conversion to the next")                                     \
+    X(span_note, set_thousands, BEGUN(10000000) * 1000000, 1, 1000000, "note_ticks: 10 MHz, counts of 1,000, from a conversion to the next")
 
 #define DEFINE_SPAN(function, setup, call, made, ticks, what) \
     static NOT_INLINED uint32_t function(const struct calls *f, struct state *s) { return call; }
@@ -367,7 +333,7 @@ static bool same_state(const struct state *x, const struct state *y, const char 
     return same;
 }
 
-static void check_same(const struct state *s, const uint32_t *answers, const char *what)
+void check_same(const struct state *s, const uint32_t *answers, const char *what)
 {
     for (int b = 1; b < BOARDS; b++) {
         bool same = same_state(&s[0], &s[b], boards[b].name);
@@ -384,15 +350,16 @@ static void check_events(void)
 {
     static struct state at, s[BOARDS];
     for (int e = 0; e < EVENT_COUNT; e++) {
+        const struct event *event = event_at(e);
         uint32_t answers[BOARDS];
-        events[e].setup(&at);
+        event->setup(&at);
         for (int b = 0; b < BOARDS; b++) {
             s[b] = at;
-            answers[b] = events[e].run(&boards[b], &s[b]);
+            answers[b] = event->run(&boards[b], &s[b]);
         }
-        check_same(s, answers, events[e].what);
-        if (answers[0] != events[e].answer) {
-            fprintf(stderr, "bench: %s: %08" PRIX32 " is answered, not %08" PRIX32 "\n", events[e].what, answers[0], events[e].answer);
+        check_same(s, answers, event->what);
+        if (answers[0] != event->answer) {
+            fprintf(stderr, "bench: %s: %08" PRIX32 " is answered, not %08" PRIX32 "\n", event->what, answers[0], event->answer);
             exit(1);
         }
     }
@@ -425,7 +392,9 @@ static void check_spans(void)
 
 static uint64_t random_state;
 
-static unsigned below(unsigned n)
+void begin_random(uint64_t seed) { random_state = seed * UINT64_C(0x9E3779B97F4A7C15) | 1; }
+
+unsigned below(unsigned n)
 {
     random_state ^= random_state << 13;
     random_state ^= random_state >> 7;
@@ -512,16 +481,7 @@ static uint8_t likely_byte(uint32_t offset)
     }
 }
 
-struct happening {
-    unsigned kind;
-    uint32_t offset, level;
-    uint8_t value;
-    int16_t code;
-    uint32_t ticks;
-    size_t memory_length, eeprom_length;
-};
-
-static struct happening random_event(void)
+struct happening random_event(void)
 {
     static const uint8_t kinds[] = {0, 0, 0, 0, 0, 1, 1, 1, 2, 2, 3, 3, 3, 3, 4, 4, 5, 6, 7, 8, 9, 9, 9, 9, 10, 11, 11, 12};
     static const uint32_t wide[] = {16, 255, 256, 263, 271, 65536, 65551, 0x80000000, 0xFFFFFFFF};
@@ -602,22 +562,27 @@ static void check_working(const struct state *s)
         }
 }
 
+/* A fresh board, a working one in any state, or a damaged one, the same in all three. */
+void random_boards(struct state *s)
+{
+    check_fresh(s);
+    if (below(8))
+        random_board(&s[0]);
+    if (below(6) == 0)
+        damage(&s[0]);
+    for (int b = 1; b < BOARDS; b++)
+        s[b] = s[0];
+    check_working(s);
+}
+
 static void check_random(uint64_t seed, unsigned long count)
 {
     static struct state s[BOARDS];
     unsigned long refusals[32] = {0}, kinds[8] = {0}, all_ones = 0;
-    random_state = seed * UINT64_C(0x9E3779B97F4A7C15) | 1;
+    begin_random(seed);
     for (unsigned long n = 0; n < count; n++) {
-        if (n % 64 == 0) {
-            check_fresh(s);
-            if (below(8))
-                random_board(&s[0]);
-            if (below(6) == 0)
-                damage(&s[0]);
-            for (int b = 1; b < BOARDS; b++)
-                s[b] = s[0];
-            check_working(s);
-        }
+        if (n % 64 == 0)
+            random_boards(s);
         struct happening h = random_event();
         uint32_t answers[BOARDS];
         char what[180];
@@ -651,13 +616,14 @@ int main(int count, char **words)
         check_events();
         check_spans();
         check_random(strtoull(words[2], NULL, 10), strtoul(words[3], NULL, 10));
+        check_tallies(strtoull(words[2], NULL, 10), strtoul(words[3], NULL, 10));
     } else if (count == 3 && strcmp(words[1], "measure") == 0) {
         measure(strtoul(words[2], NULL, 10));
     } else if (count == 4 && strcmp(words[1], "single") == 0) {
         single(words[2], strtoul(words[3], NULL, 10));
     } else if (count == 2 && strcmp(words[1], "list") == 0) {
         for (int e = 0; e < EVENT_COUNT; e++)
-            printf("%s\t%s\n", events[e].function, events[e].what);
+            printf("%s\t%s\n", event_at(e)->function, event_at(e)->what);
     } else if (count == 4 && strcmp(words[1], "spans") == 0) {
         measure_spans(strtoul(words[2], NULL, 10), strtoul(words[3], NULL, 10));
     } else if (count == 2 && strcmp(words[1], "list_spans") == 0) {

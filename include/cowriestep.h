@@ -1,8 +1,9 @@
 /*
  * Cowriestep: the Diamond-MM-32-AT board as plain C functions. Every function is proved to do what its comment says, for all inputs.
  *
- * Link with the static library that `rt staticlib cowriestep` writes: target/staticlib/libcowriestep.a. dmm32_turn alone stands in that of `rt staticlib
- * cowriestep_turn`, libcowriestep_turn.a, which a host that uses it links besides.
+ * Link with the static library that `rt staticlib cowriestep` writes: target/staticlib/libcowriestep.a. dmm32_turn stands in that of `rt staticlib
+ * cowriestep_turn`, libcowriestep_turn.a, and dmm32_step, dmm32_note, dmm32_note_ticks and dmm32_tally_adds_up in that of `rt staticlib cowriestep_tally`,
+ * libcowriestep_tally.a, which a host that uses them links besides.
  * "The manual" is the board's, V2.64, with the data sheet of its 82C54 timer.
  *
  * How a board lives in a host. `board`, `memory` and `eeprom` are the host's; LENT stands for COWRIESTEP_LENT(&board, memory, eeprom).
@@ -14,6 +15,7 @@
  *   end         conversions and transfers end when the host says so: dmm32_conversion_end(LENT, code), dmm32_transfer_end(LENT)
  *   reset       a reset of the guest's system is RESETA: dmm32_write_byte(LENT, 8, 0x20); see "how a system reset is done"
  *   collect     a collector on the host's side empties the sample memory: dmm32_turn(LENT, collector), one bus access at a time
+ *   count       a tally beside the board says where every sample went: dmm32_note before each event; see "where every sample went"
  *
  * Who owns what. The host keeps one record (struct dmm32_board), a sample memory of 512 numbers and an EEPROM of 128 bytes for each board, and lends
  * all three to a call. The library keeps nothing between calls, allocates nothing and has no state of its own: boards are independent, and calls over
@@ -509,6 +511,69 @@ struct dmm32_taken dmm32_turn(struct dmm32_board *board, uint16_t *memory, size_
  * above 31.
  */
 size_t dmm32_whole_scans(const int16_t *samples, size_t length, uint32_t low, uint32_t high);
+
+/*
+ * ---- any event as one record of numbers, and where every sample went
+ *
+ * These four stand in libcowriestep_tally.a, that of `rt staticlib cowriestep_tally`, which a host that uses one of them links besides.
+ */
+
+/* An event. What a kind does not have is not looked at. */
+struct dmm32_event {
+    uint8_t kind;                            /* COWRIESTEP_EVENT_WRITE_BYTE to _TRANSFER_END; another number is no event: refusal 3, as of an offset above 15 */
+    uint8_t value;                           /* the byte that is written, or the levels of a port's pins */
+    int16_t code;                            /* the code that a conversion ends with */
+    uint32_t offset;                         /* of a write or a read */
+    uint32_t levels;                         /* of DIN3-0 in bits 3-0; or the Latch pin's: 0 is low, any other number high */
+};
+
+/* The first three are the kinds of struct dmm32_access, so that the access which a collector names is an event: see COWRIESTEP_ACCESS_EVENT. */
+#define COWRIESTEP_EVENT_WRITE_BYTE 1        /* offset, value: dmm32_write_byte */
+#define COWRIESTEP_EVENT_READ_BYTE 2         /* offset: dmm32_read_byte */
+#define COWRIESTEP_EVENT_READ_WORD 3         /* offset: dmm32_read_word */
+#define COWRIESTEP_EVENT_CONVERSION_END 4    /* code: dmm32_conversion_end */
+#define COWRIESTEP_EVENT_DIN 5               /* levels: dmm32_din */
+#define COWRIESTEP_EVENT_LATCH 6             /* levels: dmm32_latch */
+#define COWRIESTEP_EVENT_PORT_A_PINS 7       /* value: dmm32_port_a_pins */
+#define COWRIESTEP_EVENT_PORT_B_PINS 8       /* value: dmm32_port_b_pins */
+#define COWRIESTEP_EVENT_PORT_C_PINS 9       /* value: dmm32_port_c_pins */
+#define COWRIESTEP_EVENT_TICK 10             /* dmm32_tick */
+#define COWRIESTEP_EVENT_TRANSFER_END 11     /* dmm32_transfer_end */
+
+/* The event that an access of a collector is: struct dmm32_event event = COWRIESTEP_ACCESS_EVENT(access); no access is no event. */
+#define COWRIESTEP_ACCESS_EVENT(access) { (access).kind, (access).value, 0, (access).offset, 0 }
+
+/* One event of any kind: the answer, the record and both memories are those of the function that stands beside its kind. No event is refused by 2, 1 or 3. */
+uint32_t dmm32_step(struct dmm32_board *board, uint16_t *memory, size_t memory_length, uint8_t *eeprom, size_t eeprom_length, struct dmm32_event event);
+
+/*
+ * Where the samples went, and the conversions: counts that a host keeps beside its board, which has none of them. A tally begins as zeros. Before each event
+ * the host notes it, with the board as it stands: tally = dmm32_note(tally, COWRIESTEP_LENT(board, memory, eeprom), event); and then lets it happen. What is
+ * refused counts nowhere. A count that has come to UINT64_MAX stays there.
+ */
+struct dmm32_tally {
+    uint64_t begun;                          /* conversions begun: by a trigger while none was in progress, and each next one of a scan */
+    uint64_t ended;                          /* conversions ended */
+    uint64_t abandoned;                      /* conversions that were in progress at a reset, RESETA or RESETD */
+    uint64_t read;                           /* samples that left by a word read or by a byte read of 1 */
+    uint64_t lost;                           /* samples of conversions that ended with 512 held */
+    uint64_t cleared;                        /* samples that were held at a FIFORST, a RESETA or a RESETD */
+};
+
+/* The tally with an event that is about to happen. The record goes by value, and nothing changes. */
+struct dmm32_tally dmm32_note(struct dmm32_tally tally, struct dmm32_board board, const uint16_t *memory, size_t memory_length, const uint8_t *eeprom, size_t eeprom_length, struct dmm32_event event);
+
+/* The tally with the ticks that dmm32_advance is about to do with the same arguments: that of dmm32_note before each of its `done` ticks. */
+struct dmm32_tally dmm32_note_ticks(struct dmm32_tally tally, struct dmm32_board board, const uint16_t *memory, size_t memory_length, const uint8_t *eeprom, size_t eeprom_length, uint32_t ticks);
+
+/*
+ * Whether both sums hold, of a tally that began as zeros with the board `first` and stands with the board `now`, in whole numbers of any size:
+ *     ended + held at first = read + held now + lost + cleared
+ *     begun + in progress at first = ended + abandoned + in progress now
+ * `held` is fifo.held, and in progress is 1 where converter.converting is 1, else 0. They hold after any events that were each noted, refused ones among them,
+ * while no count has come to UINT64_MAX. Of a fresh board held and in progress are 0.
+ */
+bool dmm32_tally_adds_up(struct dmm32_tally tally, struct dmm32_board first, struct dmm32_board now);
 
 /*
  * ---- A/D codes as volts (manual, chapter 9)

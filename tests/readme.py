@@ -1,8 +1,9 @@
 #!/usr/bin/env python3
-"""README as it is written: the session's table is typed in and must be answered as it says, the C host is compiled, linked and run and must print what it says, and so are the
-lines that keep time, over a second in which counters 1 and 2 have counts of 1,000: OUT1 falls every 1,000 ticks, OUT2 at the 1,000,000th tick and every 1,000,000 from there.
+"""README as it is written: the session's table is typed in and must be answered as it says, the C host and the one that keeps a tally are compiled, linked and run and must print
+what it says, and so are the lines that keep time, over a second in which counters 1 and 2 have counts of 1,000: OUT1 falls every 1,000 ticks, OUT2 at the 1,000,000th tick and every
+1,000,000 from there.
 
-    readme.py SESSION LIBRARY TURN     the session program, the static libraries of cowriestep and of cowriestep_turn
+    readme.py SESSION LIBRARY TURN TALLY     the session program, the static libraries of cowriestep, of cowriestep_turn and of cowriestep_tally
 """
 import os
 import platform
@@ -32,11 +33,8 @@ typed = ''.join(line + '\n' for line, _ in rows)
 told('a session', ''.join(line + '\n' for _, line in rows), subprocess.run([session], input=typed, capture_output=True, text=True, check=True).stdout)
 
 if platform.machine() != 'x86_64' and not shutil.which('x86_64-linux-gnu-gcc'):
-    print(f'tests/readme.py: {len(rows)} lines of a session do as README says; no C compiler for x86-64 here: the C host was NOT run')
+    print(f'tests/readme.py: {len(rows)} lines of a session do as README says; no C compiler for x86-64 here: the C hosts were NOT run')
     sys.exit()
-text = section('A C host')
-code = '\n'.join(line[4:] for line in text.split('\nWith these lines')[0].splitlines())
-prints = '\n'.join(re.findall(r'`([^`]*)`', re.search(r'this prints (.*):\n', text).group(1)))
 
 
 def printed(code):
@@ -49,8 +47,14 @@ def printed(code):
         return subprocess.run([host], capture_output=True, text=True, check=True).stdout
 
 
-told('the C host', prints + '\n', printed(code))
-keeping = '\n'.join(line[4:] for line in section('Keeping time').splitlines() if line.startswith('    '))
+def lines_of_code(text):
+    return '\n'.join(line[4:] for line in text.splitlines() if line.startswith('    ') or not line)
+
+
+for title in ('A C host', 'Where every sample went'):
+    code, rest = section(title).split('\nWith these lines')
+    told(title, '\n'.join(re.findall(r'`([^`]*)`', re.search(r'this prints (.*):\n', rest).group(1))) + '\n', printed(lines_of_code(code)))
+keeping = lines_of_code(section('Keeping time'))
 told('keeping time', '10 conversions, 10 samples, tick 10000100\n', printed(f'''#include "cowriestep.h"
 #include <stdio.h>
 static int conversions;
@@ -69,4 +73,4 @@ int main(void) {{
     return 0;
 }}
 '''))
-print(f'tests/readme.py: {len(rows)} lines of a session, the C host and the lines that keep time do as README says')
+print(f'tests/readme.py: {len(rows)} lines of a session, the C host, the tally and the lines that keep time do as README says')

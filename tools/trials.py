@@ -4,10 +4,10 @@
     python3 tools/trials.py [--cases | --model | --specs] [WORD...]
     python3 tools/trials.py table FILE...
 
-Without an option: the named cases, compiled without proof; where they notice nothing, tests/host against the library, built without proof; where these
+Without an option: the named cases, compiled without proof; where they notice nothing, tests/host against the libraries, built without proof; where these
 notice nothing, the worlds of tests/archive and the random lines of tests/models. With --cases the named cases alone. With --model the model of
-tests/host/model alone, for the first change of each definitions file of the board. With --specs the changes of trials_specs.txt: `rt check` says which theorem or function they leave
-unproved. With words, all the changes whose heading or sentence has one of them, and no others.
+tests/host/model alone, for the first change of each definitions file of the board and its tally. With --specs the changes of trials_specs.txt: `rt check`
+says which theorem or function they leave unproved. With words, all the changes whose heading or sentence has one of them, and no others.
 
 Each change is one line, and at the end come the tables and sums of docs/TRIALS.md; `table` makes these of lines that were kept in files.
 
@@ -19,7 +19,7 @@ import re
 import sys
 import tempfile
 
-from trials_library import Library
+from trials_library import LIBRARIES, Library
 from trials_programs import Programs, Sources, longer_runs, named_runs
 from trials_specs import Proofs
 from trials_table import NOT_MADE, print_table, read_results
@@ -95,11 +95,11 @@ def noticers_of(option, sources, trials):
     if option == "--specs":
         return [Proofs(sources, trials)]
     if option == "--model":
-        return [Library(sources, "the model", "board", "tests/host/model/run", "")]
+        return [Library(sources, "the model", ["tally"], "tests/host/model/run", "")]
     named = Programs(sources, named_runs(), 0)
     if option == "--cases":
         return [named]
-    return [named, Library(sources, "tests/host", "cowriestep", "tests/host/run", "libcowriestep.a"), Programs(sources, longer_runs(), 1)]
+    return [named, Library(sources, "tests/host", LIBRARIES, "tests/host/run", "libcowriestep.a"), Programs(sources, longer_runs(), 1)]
 
 
 def main():

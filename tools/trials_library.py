@@ -1,4 +1,4 @@
-"""The library that hosts link, built by tools/trials.py from the scratch copy without proof, and the tests of tests/host that run against it."""
+"""The libraries that hosts link, built by tools/trials.py from the scratch copy without proof, and the tests of tests/host that run against them."""
 import os
 import re
 import signal
@@ -6,36 +6,50 @@ import subprocess
 
 from trials_programs import CASES, OWN, ROOT
 
+LIBRARIES = "cowriestep", "cowriestep_turn", "cowriestep_tally"
 
-def compiled(sources, tools, archive):
-    """Compiles the library as `rt staticlib` does, but with no proof and by these tools; None, or what is wrong with it."""
+
+def compiled(sources, tools, archive, crate="cowriestep"):
+    """Compiles a library as `rt staticlib` does, but with no proof and by these tools; None, or what is wrong with it."""
     if os.path.exists(archive):
         os.remove(archive)
-    words = [CASES, "--toolchain", tools, "--staticlib", archive, *sources.words("cowriestep", "lib")]
+    words = [CASES, "--toolchain", tools, "--staticlib", archive, *sources.words(crate, "lib")]
     done = subprocess.run(words, stdout=subprocess.PIPE, stderr=subprocess.STDOUT)
     return None if os.path.exists(archive) else done.stdout.decode(errors="replace").strip().split("\n")[0]
 
 
 class Library:
-    """One script of tests/host, run against libcowriestep.a of the changed sources."""
+    """One script of tests/host, run against the libraries of the changed sources."""
 
     def __init__(self, sources, what, above, script, told):
-        """`above` is the crate that reaches all whose changes the script can notice; the script is told this file of the library's folder."""
+        """`above` are crates that reach all whose changes the script can notice; the script is told this file of the libraries' folder."""
         self.sources, self.what, self.script = sources, what, os.path.join(ROOT, *script.split("/"))
-        self.crates = {above, *sources.reached(above)}
+        self.crates = {crate for name in above for crate in (name, *sources.reached(name))}
         self.folder = os.path.join(sources.work, "library")
-        self.archive = os.path.join(self.folder, "libcowriestep.a")
         self.told = os.path.join(self.folder, told)
+        self.touched = set(sources.deps)  # the crates in which the libraries may be of other sources
         os.makedirs(self.folder)
 
     def reaches(self, file):
         return file.split("/")[0] in self.crates
 
+    def build(self, files):
+        """Compiles the libraries that reach these files of crates, and those that had the change before; None, or what is wrong with one."""
+        changed = {file.split("/")[0] for file in files}
+        self.touched |= changed
+        for name in LIBRARIES:
+            if self.touched & {name, *self.sources.reached(name)}:
+                wrong = compiled(self.sources, os.path.join(OWN, "toolchain"), os.path.join(self.folder, "lib%s.a" % name), name)
+                if wrong:
+                    return wrong
+        self.touched = changed
+        return None
+
     def first_notice(self, files):
         """(the script, what it says) where it fails with a change of these files of crates; None if it does not."""
         if not any(self.reaches(file) for file in files):
             return None
-        wrong = compiled(self.sources, os.path.join(OWN, "toolchain"), self.archive)
+        wrong = self.build(files)
         if wrong:
             return "NOT COMPILED", wrong
         with subprocess.Popen([self.script, self.told], stdout=subprocess.PIPE, stderr=subprocess.STDOUT, start_new_session=True) as run:

@@ -1,5 +1,5 @@
 #!/usr/bin/env python3
-"""Writes the proofs of the thin functions over a lent board, in crates/lent, cowriestep and cowriestep_turn: for each, proofs/NAME/Proof.antt, and for each
+"""Writes the proofs of the thin functions over a lent board, in crates/lent, cowriestep, cowriestep_turn and cowriestep_tally: for each, proofs/NAME/Proof.antt, and for each
 crate what its functions share: proofs/Lending.antt for those of an event, Storing.antt for those that store one part of the record alone, Advancing.antt for that of many ticks, Driving.antt for a collector's turn. Run it in the repository's root after a change to these functions or to the record. It reads the
 functions, their parameters, callees and events, and where the answer lies behind the record, from the crates' sources; the events' cases and what a step
 does are not in it.
@@ -39,6 +39,7 @@ FAMILIES = [
     Family('cowriestep', 'Lending', 'Stepped', 'Numbered', 'number', f'numberedOf (stepOf {LENT})', *EVENT),
     Family('cowriestep', 'Storing', 'Stepped', 'WordNumbered', 'number', f'wordNumbered (stepOf {LENT})', *EVENT, *WORD),
     Family('cowriestep', 'Advancing', 'Moved', 'AdvancedNumbered', 'progress', f'advancedNumbered (advancedOf {LENT})', *TICKS),
+    Family('cowriestep_tally', 'Lending', 'Stepped', 'Numbered', 'number', f'numberedOf (stepOf {LENT})', *EVENT),
     Family('cowriestep_turn', 'Driving', 'Driven', 'TurnNumbered', 'taken', f'turnNumbered (turnedIn ({TURNED}))', *TURN),
 ]
 

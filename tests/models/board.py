@@ -20,6 +20,8 @@ Operations, digits in hex; OO and O may have more digits than shown, w 8 in all:
     q       samples held, and the oldest and the newest, read round the circle; the number
             held alone where none is, where more are than there are places, and where
             the place of the oldest is not below their number
+    k       the tally, and whether it adds up with the board where it began and as it stands
+    o       begins a tally anew with the board as it stands, as a fresh board does
 Results: nothing for done, a byte in two and a word in four hex capitals, empty for a
 word read that finds nothing, ! and the number for a refusal, each after a space.  Of t
 and n each event has its result.
@@ -32,7 +34,7 @@ from spoils import SPOILS
 
 SHAPES = {"w": (ANY, 2), "r": (ANY,), "x": (ANY,), "e": (4,), "d": (ANY,), "l": (ANY,),
           "p": (1, 2), "t": (4,), "f": (), "b": (1, 1), "n": (4,), "y": (),
-          "q": (), "m": (2, 2), "h": (4, 4), "z": (2,)}
+          "q": (), "k": (), "o": (), "m": (2, 2), "h": (4, 4), "z": (2,)}
 
 
 class BoardScript:
@@ -116,6 +118,12 @@ class BoardScript:
         memory = self.board.samples
         ends = memory.ends()
         return " %d" % memory.held + (":%04X-%04X" % ends if ends else "")
+
+    def do_k(self):
+        return " " + self.board.tally.text(self.board)
+
+    def do_o(self):
+        self.board.tally.begin_on(self.board)
 
 
 def dout_pins(board):

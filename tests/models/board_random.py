@@ -3,8 +3,9 @@
 
 Counts are short, ranges small, and page, key and ticks are chosen so that deep
 states come up: scans, overflows, cascades, transfers, busy outputs, samples round
-the end of their memory.  A few lines end with a spoil of the list below; after it
-only single events follow.  A few others poke places of the sample memory at their
+the end of their memory.  The tally is shown and begun anew between them, and after
+overflows and resets in mid-scan.  A few lines end with a spoil of the list below; after
+it only single events follow.  A few others poke places of the sample memory at their
 end, held and free.
 """
 import timer_random
@@ -24,6 +25,7 @@ FAR = ("r10", "w1000", "x01", "x10", "rFF", "r100", "r10F", "x100", "x10000", "w
 WIDE_DIN = (0x10, 0x18, 0xF7, 0x100, 0x107, 0x10F, 0x1000F, 0xFFFFFFFF)
 PLACES = (0, 1, 2, 3, 4, 8, 20, 0x1FD, 0x1FE, 0x1FF)     # at and beside the memory's ends
 HIGH = (1, 1, 1, 2, 0x10, 0x100, 0x10000)               # Latch levels that are high
+CLEARS = ("w0702", "w070E", "w0820", "w0810", "w0830", "w0828", "w081B")    # and INTRST with them
 
 
 class Line:
@@ -64,7 +66,22 @@ class Line:
         return self.dice.choice((start, end, start + " " + end, start + " " + end))
 
     def sample(self):
-        return self.dice.choice(("x00", "x00", "r00", "r01", "q", "r07", "r08"))
+        return self.dice.choice(("x00", "x00", "r00", "r01", "q", "r07", "r08", "k"))
+
+    def tally(self):
+        """Shown, begun anew, or shown round what it keeps apart."""
+        kind = self.dice.randrange(12)
+        if kind < 8:
+            return "k" if kind < 6 else "o k"
+        clear = self.dice.choice(CLEARS)
+        if clear[2] == "8":
+            self.page = 0
+        if kind == 8:
+            more = " ".join(self.dice.choices(("w0000 e0001", "x00", "r01", "o"), k=2))
+            return "w0900 n%04X k %s k %s k" % (self.dice.randrange(0x1FE, 0x204), more, clear)
+        scan = "w02%02X w03%02X w0704" % (self.dice.choice(CHANNELS), self.dice.choice(CHANNELS))
+        ends = " e0003" * self.dice.randrange(4)
+        return "w0900 %s w0000%s k %s%s k e0004 k" % (scan, ends, "o " * self.often(0.3), clear)
 
     def control(self):
         """Registers 1, 9, 10 and 11."""
@@ -157,7 +174,7 @@ class Line:
         return self.dice.choice(("f", "f", "y", "q"))
 
     KINDS = ((analog_input, 20), (sample, 10), (control, 8), (turn_page, 5), (paged, 22),
-             (ticks, 12), (pins, 10), (analog_output, 5), (read, 6), (host, 3))
+             (ticks, 12), (pins, 10), (analog_output, 5), (read, 6), (host, 3), (tally, 4))
 
     def operation(self):
         methods = [method for method, _ in self.KINDS]
@@ -206,13 +223,14 @@ class Line:
         return parts
 
     def end(self):
-        parts = ["r04 r07 r08 r09 q y"]
+        parts = ["r04 r07 r08 r09 q y k"]
         if self.often(0.1):
             spoil = self.dice.choice(SPOILS)
             parts.append("z%02X" % spoil)
             single = ("w0000", "r07", "x00", "e0001", "d07", "l1", "p0FF", "t0001", "f",
-                      "w0820", "w1000", "d10", "r107", "w10820", "d107", "l2")
-            parts += self.dice.choices(single, k=5) + ["q"] + ["y"] * (spoil not in HIDDEN)
+                      "w0820", "w1000", "d10", "r107", "w10820", "d107", "l2", "w0702")
+            parts += ["o"] * self.often(0.2) + self.dice.choices(single, k=5) + ["q"]
+            parts += ["y"] * (spoil not in HIDDEN) + ["k o w0702 e0001 k"]
         elif self.often(0.03):
             parts.append("h01FF0001 r07 x00 w0000 q")
         elif self.often(0.08):

@@ -4,14 +4,21 @@ CHANNELS = 32
 
 
 class Converter:
-    def __init__(self):
-        self.reset()
+    def __init__(self, tally):
+        self.tally = tally
+        self.clear()
 
-    def reset(self):
+    def clear(self):
         self.low = 0
         self.high = 0
         self.selected = 0
         self.channel = None         # of the conversion in progress
+
+    def reset(self):
+        """Part of every reset of the board: a conversion in progress is abandoned."""
+        if self.busy():
+            self.tally.count("abandoned")
+        self.clear()
 
     def fit(self):
         channels = [self.low, self.high, self.selected, self.channel or 0]
@@ -35,6 +42,7 @@ class Converter:
 
     def begin(self):
         """The selection moves as the conversion begins."""
+        self.tally.count("begun")
         self.channel = self.selected
         if self.selected == self.high:
             self.selected = self.low
@@ -43,6 +51,7 @@ class Converter:
 
     def end(self, scan):
         """A conversion is done; was it a single one or the scan's last?"""
+        self.tally.count("ended")
         last = not scan or self.channel == self.high
         if last:
             self.channel = None

@@ -1,8 +1,8 @@
 """The board: its events, requests and refusals.
 
 Made from the specification ("What is delivered", "Refusal numbers",
-"Conversions, edges and requests"), requests M-100 and M-105 and the manual.  An event
-is a method; its name and numbers are first looked at by `refusal`.
+"Conversions, edges and requests"), requests M-100, M-105 and M-112 and the manual.  An
+event is a method; its name and numbers are first looked at by `refusal`.
 """
 import calibration
 import registers
@@ -14,6 +14,7 @@ from ports import Ports
 from registers import (ADINTE, CLKEN, CLKSEL, DINTE, FREQ0, FREQ12, GT0EN, GT12EN,
                        SRC0, TINTE)
 from samples import PLACES, SampleMemory
+from tally import Tally
 from timer import Timer
 
 DIN0, DIN1, DIN2, DIN3 = 1, 2, 4, 8
@@ -27,8 +28,9 @@ class Refused(Exception):
 class Board:
     def __init__(self, jumpers=0, zero_scale=False):
         self.jumpers = jumpers          # 0 to 3: A, B, C, D of chapter 5.4
-        self.samples = SampleMemory()
-        self.converter = Converter()
+        self.tally = Tally()            # where the samples went
+        self.samples = SampleMemory(self.tally)
+        self.converter = Converter(self.tally)
         self.outputs = Outputs(zero_scale)
         self.ports = Ports()
         self.calibration = Calibration()

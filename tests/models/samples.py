@@ -1,4 +1,4 @@
-"""The sample memory (manual chapters 10 and 11.2, "the A/D FIFO"; request M-105)."""
+"""The sample memory (manual chapters 10 and 11.2, "the A/D FIFO"; requests M-105, M-112)."""
 
 PLACES = 512
 HALF = 256
@@ -7,7 +7,8 @@ HALF = 256
 class SampleMemory:
     """A circle: samples stand from the oldest's place on, round the end; free places are 0."""
 
-    def __init__(self):
+    def __init__(self, tally):
+        self.tally = tally
         self.places = [0] * PLACES
         self.held = 0
         self.place = 0              # of the oldest sample; 0 when none is held
@@ -32,6 +33,7 @@ class SampleMemory:
 
     def reset(self):
         """FIFORST, and part of every reset of the board."""
+        self.tally.count("cleared", self.held)
         self.places[:] = [0] * len(self.places)
         self.held = 0
         self.place = 0
@@ -41,6 +43,7 @@ class SampleMemory:
         """The sample goes behind the newest; with 512 held it is lost and sets OVF."""
         if self.held == PLACES:
             self.overflow = True
+            self.tally.count("lost")
         else:
             self.places[(self.place + self.held) % PLACES] = code
             self.held += 1
@@ -56,6 +59,7 @@ class SampleMemory:
         """The oldest sample leaves, its place becomes 0 and OVF clears; no change when empty."""
         if self.empty():
             return
+        self.tally.count("read")
         self.places[self.place] = 0
         self.held -= 1
         self.place = 0 if self.empty() else (self.place + 1) % PLACES

@@ -70,6 +70,11 @@ def held(board, number, overflow):
     board.samples.held, board.samples.overflow = number, overflow
 
 
+def conversion_of_32(board):
+    board.converter.channel = 32
+    board.damaged.discard("STS")
+
+
 def none_held_at_5(board):
     board.samples.held, board.samples.place = 0, 5
 
@@ -116,7 +121,7 @@ SPOILS = {
     0x07: lambda board: setattr(board.converter, "selected", 32),
     0x08: lambda board: setattr(board.converter, "low", 32),
     0x09: lambda board: setattr(board.converter, "high", 32),
-    0x0A: lambda board: setattr(board.converter, "channel", 32),
+    0x0A: conversion_of_32,
     0x0B: lambda board: setattr(board.outputs, "busy", 101),
     0x0C: lambda board: setattr(board, "divider_100", 100),
     0x0D: lambda board: setattr(board, "divider_1000", 1000),

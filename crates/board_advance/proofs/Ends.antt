@@ -1,11 +1,11 @@
--- The ways out of `advance` and `ticks_until`, over plain values. Assumes nothing.
+-- The ways out of `advance`, `ticks_until` and `begins_in`, over plain values. Assumes nothing.
 use Prim.Native.Nat.{ℕ, _+_, _-_}
 use native.Mathlib.Omega.{arith}
 use mathlib.Core.Path.{_≡_, refl, sym, ap, _∙_}
 use mathlib.Core.Bool.{Bool, true, false, not, _&&_, _||_}
 use mathlib.Core.List.{List}
 use Rattle.base.specs.Flags.{on}
-use Rattle.base.specs.Laws.{never, not-true}
+use Rattle.base.specs.Laws.{never, not-true, not-not}
 use Rattle.converter.specs.Channels.{triggered}
 use Rattle.converter.specs.declared.channels.Converter.{Converter}
 use Rattle.requests.specs.Requests.{askedTimer}
@@ -14,6 +14,8 @@ use Rattle.timer.specs.declared.Gates.{Gates}
 use Rattle.machine_record.specs.Parts.{withConverter, withRequests, withClocks, withOutputs}
 use Rattle.machine_record.specs.declared.Board.{Board}
 use Rattle.machine_clock.specs.Clock.{gates}
+use Rattle.machine_tick.specs.InPlace.{clocksTicked, falls2}
+use Rattle.machine_record.specs.declared.Clocks.{Clocks}
 use Rattle.machine_strides.specs.Strides.{strideOf}
 use Rattle.machine_strides.specs.declared.Stride.{Stride}
 use Rattle.board_stores.specs.Stores.{wrongLengths}
@@ -22,7 +24,7 @@ use Rattle.board_refusal.specs.Refusals.{eventChecks, checks}
 use Rattle.board_step.specs.Ways.{Opened}
 use Rattle.board_events.specs.declared.Answer.the-variants.{Refused, Done}
 use Rattle.board_advance.specs.Advance.{advancedOf}
-use Rattle.board_advance.specs.Strided.{heeds0, heeds2, strideAt, strideEnd, strided, unheeded}
+use Rattle.board_advance.specs.Strided.{heeds0, heeds2, strideAt, strideEnd, strided, unheeded, beginsIn, begins-in-one}
 use Rattle.board_advance.specs.declared.Advanced.{Advanced}
 
 -- ---- the stride
@@ -74,3 +76,14 @@ module _ (b : Board) (m e : List ℕ) (n : ℕ) where
       let z : 0 + n ≡ n = omega arith in
       let d : strideAt b n .done ≡ n = rw (sym e0 ∙ f .0, sym e2 ∙ f .1) (unheeded (b .registers .counting) (gates b) n 0 (b .clocks) ∙ z) in
       sym d ∙ until o refl
+
+-- ---- and of `begins_in`
+pub unheard : (b : Board) (n : ℕ) {h2 : Bool} → h2 ≡ heeds2 b → not h2 ≡ true → false ≡ beginsIn b n
+unheard b n {h2} e h = rw (sym e ∙ not-true h2 h)
+
+pub heard : (b : Board) (n : ℕ) {h2 : Bool} {s : Stride} → h2 ≡ heeds2 b → not h2 ≡ false → s ≡ strideAt b n → s .fell2 ≡ beginsIn b n
+heard b n {h2} e h s≡ = rw (sym e ∙ not-not h2 h) (ap (λ (x : Stride). x .fell2) s≡)
+
+pub one-tick : (b : Board) {n : ℕ} {h2 f : Bool} {g : Gates} {l : Clocks} → h2 ≡ heeds2 b → not h2 ≡ false → n ≡ 1 → g ≡ gates b
+    → l ≡ clocksTicked (b .registers .counting) g (b .clocks) → f ≡ falls2 (b .clocks) l → f ≡ beginsIn b n
+one-tick b {h2 = h2} e h k g l f = f ∙ rw (k, begins-in-one b, sym e ∙ not-not h2 h, l, g)

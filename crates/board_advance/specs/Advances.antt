@@ -47,7 +47,8 @@ pub record Advances (b : Board) (m e : List ℕ) (n d : ℕ) (r : Advanced) : Ty
 
 module _ (m e : List ℕ) where
   -- one tick event of a board that is not refused
-  tick-state : (b : Board) → Opened b m e → afterTick (record { board = b; memory = m; eeprom = e }) ≡ record { board = tickedBoard b; memory = m; eeprom = e }
+  pub tick-state : (b : Board) → Opened b m e
+      → afterTick (record { board = b; memory = m; eeprom = e }) ≡ record { board = tickedBoard b; memory = m; eeprom = e }
   tick-state b o = let p = tick-step b m e o in rw (sym (p .0), sym (p .1 .0), sym (p .1 .1))
 
   pub one-tick : (n d : ℕ) (b : Board) → Opened b m e

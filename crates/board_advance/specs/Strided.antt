@@ -68,7 +68,7 @@ asks r f = rw (on-flag (on (r .flags .tint) || on (r .tinte) && f)) (by (on (r .
     by false true f = refl
     by false false f = refl
 
-fall-last : (k s v f : Bool) → (k && s && f) && not v ≡ (k && s && not v) && f
+pub fall-last : (k s v f : Bool) → (k && s && f) && not v ≡ (k && s && not v) && f
 fall-last true true true true = refl
 fall-last true true true false = refl
 fall-last true true false true = refl
@@ -152,3 +152,33 @@ module _ (b : Board) (m e : List ℕ) where
 pub unheeded : (c : ℕ) (g : Gates) (n d : ℕ) (l : Clocks) → strideFrom c g false false n d l .done ≡ d + n
 unheeded c g zero d l = omega arith
 unheeded c g (suc n) d l = omega (arith, unheeded c g n (suc d) (clocksTicked c g l))
+
+-- ---- whether a conversion begins in the ticks
+abbrev pub beginsIn : Board → ℕ → Bool
+beginsIn b n = heeds2 b && strideAt b n .fell2
+
+pub begun-in : (b : Board) (m e : List ℕ) (n : ℕ) → Opened b m e
+    → rose (b .converter .converting) (advancedFrom n 0 b m e .board .converter .converting) ≡ beginsIn b n
+begun-in b m e n o =
+    let f = strideAt b n .fell2 in
+    rw (strided b m e n o)
+    (begins (b .converter) (internalTrigger (b .converter) (on (b .requests .clksel)) f)
+    ∙ fall-last (on (b .converter .clken)) (on (b .requests .clksel)) (on (b .converter .converting)) f)
+
+-- of one tick: where OUT2 falls in it
+fell-of : (h : Bool) (x y : Stride) → (if h then x else y) .fell2 ≡ (if h then x .fell2 else y .fell2)
+fell-of true x y = refl
+fell-of false x y = refl
+
+heard-alone : (x h f : Bool) → h && (if x || h && f then f else false) ≡ h && f
+heard-alone true h f = refl
+heard-alone false true true = refl
+heard-alone false true false = refl
+heard-alone false false f = refl
+
+pub begins-in-one : (b : Board) → beginsIn b 1 ≡ heeds2 b && falls2 (b .clocks) (clocksTicked (b .registers .counting) (gates b) (b .clocks))
+unfolding strideAt strideOf
+begins-in-one b =
+    let l = clocksTicked (b .registers .counting) (gates b) (b .clocks) in
+    ap (λ (x : Bool). heeds2 b && x) (fell-of (heard (heeds0 b) (heeds2 b) (b .clocks) l) _ _)
+    ∙ heard-alone (heeds0 b && falls0 (b .clocks) l) (heeds2 b) (falls2 (b .clocks) l)

@@ -6,7 +6,7 @@ ghost use Prim.Native.Nat.{_-_};
 ghost use mathlib.Core.Path.{_≡_};
 ghost use Rattle.machine_record.specs.Working.{WorkingMachine};
 ghost use Rattle.board_advance.specs.Advance.{advancedOf};
-ghost use Rattle.board_advance.specs.Strided.{heeds0, heeds2, strideAt};
+ghost use Rattle.board_advance.specs.Strided.{heeds0, heeds2, strideAt, beginsIn};
 
 // The answer, and how many ticks were done.
 pub struct Progress {
@@ -110,4 +110,25 @@ pub fn ticks_until(board: Board, memory: &[u16], eeprom: &[u8], most: u32) -> u3
     }
     let s = stride(board, most);
     s.done
+}
+
+// Whether a conversion begins in the ticks that `advance` would do of a working board. One tick is done by itself, which takes less than the look ahead of
+// many.
+pub fn begins_in(b: Board, ticks: u32) -> bool
+    requires { ⌜ WorkingMachine b ⌝ }
+    ensures { λ r. ⌜ r ≡ beginsIn b ticks ⌝ }
+{
+    if !heeds_2(b) {
+        return false;
+    }
+    if ticks == 1 {
+        let g = machine::gates_at(b.registers.counting, b.pins.din);
+        let l = machine_tick::tick_clocks(b.clocks, b.registers.counting, g);
+        return timer::has_fallen(
+            b.clocks.timer.counter2.count.out == 1,
+            l.timer.counter2.count.out == 1,
+        );
+    }
+    let s = stride(b, ticks);
+    s.fell2
 }

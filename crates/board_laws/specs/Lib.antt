@@ -1,6 +1,7 @@
 pub mod Kept
 pub mod Held
 pub mod Begins
+pub mod Offsets
 pub mod Resets
 pub mod Reads
 pub mod Conversions

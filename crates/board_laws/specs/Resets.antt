@@ -1,12 +1,13 @@
 -- A write that resets the board is a write of offset 8, whatever the page: laws for the theorems on what abandons a conversion.
 use Prim.Native.Nat.{ℕ}
-use mathlib.Core.Path.{_≡_, refl, sym, _∙_}
+use mathlib.Core.Path.{_≡_, refl}
 use mathlib.Core.Bool.{Bool, true, false, _&&_}
-use borrow.Author.Tests.{eqb-true}
+use native.Mathlib.Omega.{arith}
+use borrow.Author.Tests.{eqb-true, ne-eqb, leb-false}
 use lib.Dec.{eqb, leb}
-use Rattle.base.specs.Laws.{by-choice, by-test, never}
 use Rattle.machine_reset.specs.Reset.{isReset}
-use Rattle.bus.specs.Place.{fixedPlace, pagedPlace, placeOf}
+use Rattle.bus.specs.Place.{placeOf}
+use Rattle.board_laws.specs.Offsets.{Above, of-offset}
 use Rattle.bus.specs.declared.Place.{Place}
 use Rattle.bus.specs.declared.Place.the-variants.{Base0, Base1, Base2, Base3, Base4, Base5, Base6, Base7}
 use Rattle.bus.specs.declared.Place.the-variants.{Base8, Base9, Base10, Base11, Count, ControlWord, PortData, PortControl}
@@ -39,35 +40,48 @@ placeResets CalBase15 v = false
 placeResets Outside v = false
 
 module _ (n v : ℕ) where
-  abbrev Not : Place → Type 0
-  Not p = placeResets p v ≡ false
+  abbrev Says : Place → Type 0
+  Says p = placeResets p v ≡ eqb n 8 && isReset v
 
-  fixed-not : eqb n 8 ≡ false → Not (fixedPlace n)
-  fixed-not h =
-      by-choice Not (eqb n 0) refl
-      (by-choice Not (eqb n 1) refl
-      (by-choice Not (eqb n 2) refl
-      (by-choice Not (eqb n 3) refl
-      (by-choice Not (eqb n 4) refl
-      (by-choice Not (eqb n 5) refl
-      (by-choice Not (eqb n 6) refl
-      (by-choice Not (eqb n 7) refl
-      (by-test Not (eqb n 8) (λ t. never (sym h ∙ t)) (λ _. by-choice Not (eqb n 9) refl (by-choice Not (eqb n 10) refl refl))))))))))
+  at : (k : ℕ) (p : Place) → placeResets p v ≡ eqb k 8 && isReset v → eqb n k ≡ true → Says p
+  at k p e t = let z : n ≡ k = eqb-true n k t in rw z e
 
-  paged-not : (page : ℕ) → Not (pagedPlace page n)
-  paged-not page =
-      by-choice Not (eqb page 0)
-      (by-choice Not (eqb n 12) refl (by-choice Not (eqb n 13) refl (by-choice Not (eqb n 14) refl refl)))
-      (by-choice Not (eqb page 1)
-      (by-choice Not (eqb n 12) refl (by-choice Not (eqb n 13) refl (by-choice Not (eqb n 14) refl refl)))
-      (by-choice Not (eqb page 2)
-      (by-choice Not (eqb n 15) refl refl)
-      (by-choice Not (eqb n 12) refl (by-choice Not (eqb n 13) refl (by-choice Not (eqb n 14) refl refl)))))
+  high : leb n 11 ≡ false → Above Says
+  high h =
+      let not8 : eqb n 8 ≡ false = ne-eqb n 8 (λ z. omega (arith, leb-false n 11 h)) in
+      record {
+        count = λ s. rw not8;
+        controlWord = rw not8;
+        portData = λ q. rw not8;
+        portControl = rw not8;
+        reserved = rw not8;
+        auxiliary = rw not8;
+        calData = rw not8;
+        calAddress = rw not8;
+        calBase14 = rw not8;
+        calBase15 = rw not8;
+        outside = rw not8;
+      }
+
+  says : (page : ℕ) → Says (placeOf page n)
+  says page =
+      of-offset Says n
+      (record {
+        base0 = at 0 Base0 refl;
+        base1 = at 1 Base1 refl;
+        base2 = at 2 Base2 refl;
+        base3 = at 3 Base3 refl;
+        base4 = at 4 Base4 refl;
+        base5 = at 5 Base5 refl;
+        base6 = at 6 Base6 refl;
+        base7 = at 7 Base7 refl;
+        base8 = at 8 Base8 refl;
+        base9 = at 9 Base9 refl;
+        base10 = at 10 Base10 refl;
+        base11 = at 11 Base11 refl;
+        above = high;
+      })
+      page
 
 pub place-resets : (page n v : ℕ) → placeResets (placeOf page n) v ≡ eqb n 8 && isReset v
-unfolding placeOf
-place-resets page n v = by (eqb n 8) refl
-  where
-    by : (t : Bool) → eqb n 8 ≡ t → placeResets (placeOf page n) v ≡ t && isReset v
-    by true h = let at : n ≡ 8 = eqb-true n 8 h in rw at
-    by false h = by-choice (Not n v) (leb n 11) (fixed-not n v h) (by-choice (Not n v) (leb n 15) (paged-not n v page) refl)
+place-resets page n v = says n v page

@@ -4,11 +4,10 @@ use mathlib.Core.Path.{_≡_, refl, sym, _∙_}
 use mathlib.Core.Bool.{true, false}
 use mathlib.Core.List.{List}
 use native.Mathlib.Omega.{arith}
-use lib.Dec.{eqb, leb}
+use lib.Dec.{eqb}
 use Rattle.base.specs.Fields.{bit}
-use Rattle.base.specs.Laws.{by-choice, by-test, under-and, never}
+use Rattle.base.specs.Laws.{by-choice, under-and, never}
 use Rattle.timer.specs.Bus.{countWritten, controlWordWritten}
-use Rattle.timer.specs.declared.Select.the-variants.{Counter0, Counter1, Counter2}
 use Rattle.timer.specs.declared.accesses.Written.{Written}
 use Rattle.timer.specs.declared.accesses.Written.the-variants.{Accepted, Refused}
 use Rattle.fifo.specs.declared.OldestSample.{OldestSample}
@@ -17,7 +16,7 @@ use Rattle.machine_tick.specs.Tick.{nextTick, dividersTicked, counter0Ticked, c
 use Rattle.machine_pins.specs.Pins.{dinMoved, din0Clocked, din3Triggered, dinSet, latchSet, portSet}
 use Rattle.machine_reset.specs.Reset.{isReset, boardReset, requestsCleared, pageSet, miscWritten}
 use Rattle.machine_record.specs.declared.Board.{Board}
-use Rattle.bus.specs.Place.{fixedPlace, pagedPlace, placeOf}
+use Rattle.bus.specs.Place.{placeOf}
 use Rattle.bus.specs.Registers.{writtenAt}
 use Rattle.bus.specs.declared.Place.{Place}
 use Rattle.bus.specs.declared.Place.the-variants.{Base0, Base1, Base2, Base3, Base4, Base5, Base6, Base7}
@@ -25,6 +24,7 @@ use Rattle.bus.specs.declared.Place.the-variants.{Base8, Base9, Base10, Base11,
 use Rattle.bus.specs.declared.Place.the-variants.{Reserved, Auxiliary, CalData, CalAddress, CalBase14, CalBase15, Outside}
 use Rattle.board_step.specs.Act.{acted}
 use Rattle.board_laws.specs.Begins.{resets}
+use Rattle.board_laws.specs.Offsets.{Above, of-offset}
 use Rattle.board_laws.specs.Reads.{read-leaves}
 use Rattle.board_laws.specs.Stretches.{ticksOf, isLoad}
 use Rattle.board_events.specs.declared.Event.{Event}
@@ -107,37 +107,42 @@ module _ (b : Board) (n v : ℕ) where
   unfolding miscWritten requestsCleared pageSet
   misc-stays h = rw h (by-choice (λ (c : Board). c .outputs .busy ≡ b .outputs .busy) (bit v 3) refl refl)
 
-  fixed-stays : eqb n 5 ≡ false → (eqb n 8 ≡ true → isReset v ≡ false) → Stays (fixedPlace n)
-  unfolding writtenAt countingWritten
-  fixed-stays h k =
-      by-choice Stays (eqb n 0) refl
-      (by-choice Stays (eqb n 1) refl
-      (by-choice Stays (eqb n 2) refl
-      (by-choice Stays (eqb n 3) refl
-      (by-choice Stays (eqb n 4) refl
-      (by-test Stays (eqb n 5) (λ t. never (sym h ∙ t)) (λ _.
-      by-choice Stays (eqb n 6) refl
-      (by-choice Stays (eqb n 7) refl
-      (by-test Stays (eqb n 8) (λ t. misc-stays (k t)) (λ _.
-      by-choice Stays (eqb n 9) refl (by-choice Stays (eqb n 10) refl refl))))))))))
-
-  paged-stays : (page : ℕ) → Stays (pagedPlace page n)
+  above-stays : Above Stays
   unfolding writtenAt
-  paged-stays page =
-      by-choice Stays (eqb page 0)
-      (by-choice Stays (eqb n 12) (written-stays (countWritten (b .clocks .timer) Counter0 v (gates b)))
-      (by-choice Stays (eqb n 13) (written-stays (countWritten (b .clocks .timer) Counter1 v (gates b)))
-      (by-choice Stays (eqb n 14) (written-stays (countWritten (b .clocks .timer) Counter2 v (gates b)))
-      (written-stays (controlWordWritten (b .clocks .timer) v (gates b))))))
-      (by-choice Stays (eqb page 1)
-      (by-choice Stays (eqb n 12) refl (by-choice Stays (eqb n 13) refl (by-choice Stays (eqb n 14) refl refl)))
-      (by-choice Stays (eqb page 2)
-      (by-choice Stays (eqb n 15) refl refl)
-      (by-choice Stays (eqb n 12) refl (by-choice Stays (eqb n 13) refl (by-choice Stays (eqb n 14) refl refl)))))
+  above-stays = record {
+    count = λ s. written-stays (countWritten (b .clocks .timer) s v (gates b));
+    controlWord = written-stays (controlWordWritten (b .clocks .timer) v (gates b));
+    portData = λ q. refl;
+    portControl = refl;
+    reserved = refl;
+    auxiliary = refl;
+    calData = refl;
+    calAddress = refl;
+    calBase14 = refl;
+    calBase15 = refl;
+    outside = refl;
+  }
 
   write-stays : eqb n 5 ≡ false → (eqb n 8 ≡ true → isReset v ≡ false) → Stays (placeOf (b .registers .page) n)
-  unfolding placeOf writtenAt
-  write-stays h k = by-choice Stays (leb n 11) (fixed-stays h k) (by-choice Stays (leb n 15) (paged-stays (b .registers .page)) refl)
+  unfolding writtenAt countingWritten
+  write-stays h k =
+      of-offset Stays n
+      (record {
+        base0 = λ _. refl;
+        base1 = λ _. refl;
+        base2 = λ _. refl;
+        base3 = λ _. refl;
+        base4 = λ _. refl;
+        base5 = λ t. never (sym h ∙ t);
+        base6 = λ _. refl;
+        base7 = λ _. refl;
+        base8 = λ t. misc-stays (k t);
+        base9 = λ _. refl;
+        base10 = λ _. refl;
+        base11 = λ _. refl;
+        above = λ _. above-stays;
+      })
+      (b .registers .page)
 
 less-none : {x y : ℕ} → x ≡ y → x ≡ y - 0
 less-none {x} {y} h = omega arith

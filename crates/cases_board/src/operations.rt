@@ -1,7 +1,8 @@
 // The operations of a case:
 //   wOOHH byte write; rOO byte read; xOO word read; eHHHH conversion end, the code's 16 bits; dHH DIN pins; lH Latch level; pNHH pins of
 //   port N (0 A, 1 B, 2 C); tHHHH so many ticks; f transfer end; bNZ a fresh board, jumpers N, zero scale Z; nHHHH so many software-triggered
-//   conversions, whose codes count on; mOOHH, hOOOOHHHH the host sets a place of EEPROM, of sample memory; zNN spoils the board; y, q show it.
+//   conversions, whose codes count on; mOOHH, hOOOOHHHH the host sets a place of EEPROM, of sample memory; zNN spoils the board; y, q show it;
+//   k shows the tally that is kept beside it, o begins one with the board as it stands.
 // Offsets, DIN and Latch levels of more digits are handed on as they stand.
 use super::bench;
 use super::bench::BoardBench;
@@ -119,13 +120,14 @@ fn spoil_bench(b: BoardBench, n: u32) -> BoardBench {
     }
 }
 
-// What leaves the bench: a place of a store is set, or the board is shown.
+// What leaves the bench: a place of a store is set, or the board or its tally is shown.
 fn set_or_show(b: BoardBench, memory: &mut [u16], eeprom: &mut [u8], letter: u8, value: u32) {
     match letter {
         b'm' => set_byte(eeprom, value),
         b'h' => set_place(memory, value),
         b'y' => view::show_host(b.board),
         b'q' => view::show_samples(b.board.fifo, memory, b.places),
+        b'k' => bench::show_tally(b),
         _ => {}
     }
 }
@@ -140,6 +142,7 @@ fn host(
     match letter {
         b'b' => bench::start(memory, eeprom, value / 16 % 16, value % 16 == 1),
         b'z' => spoil_bench(b, value),
+        b'o' => bench::begin_tally(b),
         _ => {
             set_or_show(b, memory, eeprom, letter, value);
             b

@@ -50,7 +50,7 @@ pub struct TurnNumbered {
 }
 
 // What a step answers, with the answer as a number.
-fn in_numbers(out: Outcome) -> Numbered
+pub fn in_numbers(out: Outcome) -> Numbered
     ensures { λ r. ⌜ r ≡ numberedOf out ⌝ }
 {
     let after = out.board;

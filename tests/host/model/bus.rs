@@ -100,7 +100,7 @@ impl Board {
     /// RESETA or RESETD: counters, dividers, pins, TrimDAC and EEPROM remain.
     fn reset(&mut self, memory: &mut [u16], outputs_too: bool) {
         self.moving_gates(|board| board.registers = Registers::default());
-        self.converter = Converter::default();
+        self.abandon_conversion();
         self.requests = Requests::default();
         self.empty_memory(memory);
         let codes = if outputs_too {

@@ -9,6 +9,7 @@ use crate::other_uses::FAR;
 use crate::random::Random;
 use crate::record::{Board, RECORD_LENGTH};
 use crate::step::{Lent, Step, EEPROM_ROOM, MEMORY_ROOM};
+use crate::tally::{Kept, Tally};
 use crate::working::{EEPROM_LENGTH, MEMORY_LENGTH};
 
 /// The events by their functions.
@@ -100,6 +101,7 @@ impl Source {
     /// An event, now and then with wrong lengths.
     fn step(&mut self, which: usize) -> Step {
         let mut step = Step::plain(self.event(which));
+        step.by_record = self.random.once_in(2);
         match self.random.below(128) {
             0 => step.memory_length = self.random.pick(&[0, 511, 513, MEMORY_ROOM]),
             1 => step.eeprom_length = self.random.pick(&[0, 127, 129, EEPROM_ROOM]),
@@ -141,6 +143,7 @@ fn show(before: &Board, mut lent: Lent, step: &Step) {
         let mut bytes = lent.board.bytes();
         bytes[place] = before.bytes()[place];
         simpler.board = Board::of_bytes(bytes);
+        simpler.tally = Kept::begun(simpler.board, Tally::default());
         if !differences(&simpler, step).1.is_empty() {
             lent = simpler;
         }
@@ -179,6 +182,7 @@ pub fn records_agree(seed: u64, records: u64) -> bool {
         let mut lent = source.next();
         let before = lent.board;
         lent.board = source.replaced(before);
+        lent.tally = Kept::begun(lent.board, Tally::default());
         source.spoil_memories(&mut lent);
         let which = (number % EVENTS.len() as u64) as usize;
         let step = source.step(which);

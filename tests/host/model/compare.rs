@@ -6,6 +6,7 @@ use crate::fields::differing;
 use crate::library;
 use crate::record::Board;
 use crate::step::{Lent, Start, Step};
+use crate::tally::{self, Kept, Tally};
 use crate::working::{is_working, MEMORY_LENGTH};
 
 /// Both sides of a comparison.
@@ -19,6 +20,8 @@ pub struct Outcome {
     /// The record when the event came, after the host's changes.
     pub before: Board,
     pub answer: u32,
+    /// The tally when the event came, and after it.
+    pub noted: [Kept; 2],
     /// What the library has otherwise, in words; empty where nothing differs.
     pub differences: Vec<String>,
 }
@@ -50,6 +53,30 @@ impl Pair {
         if model.eeprom != library.eeprom {
             found.extend(first_places("eeprom", &model.eeprom, &library.eeprom));
         }
+        if model.tally != library.tally {
+            let (ours, theirs) = (model.tally.counts, library.tally.counts);
+            found.push(format!("tally: library {theirs}, model {ours}"));
+        }
+        found
+    }
+
+    /// Whether the library says of the sums what they are, and whether they hold where they must: of
+    /// the tally, of one that is off by one, and of one that adds up where numbers go round.
+    fn differences_of_sums(&self) -> Vec<String> {
+        let kept = self.model.tally;
+        let off_by_one = Tally { lost: kept.counts.lost ^ 1, ..kept.counts };
+        let mut found = Vec::new();
+        let round = kept.round_the_end(kept.counts, &self.model.board);
+        for counts in [kept.counts, off_by_one, round] {
+            let ours = kept.adds_up(counts, &self.model.board);
+            let theirs = library::adds_up(counts, kept.first, self.library.board);
+            if ours != theirs {
+                found.push(format!("{counts}: adds up: library {theirs}, model {ours}"));
+            }
+        }
+        if kept.must_add_up() && !kept.adds_up(kept.counts, &self.model.board) {
+            found.push(format!("{} do not add up", kept.counts));
+        }
         found
     }
 
@@ -65,11 +92,13 @@ impl Pair {
             change.apply(&mut self.model);
             change.apply(&mut self.library);
         }
-        let before = self.model.board;
+        let (before, tally_before) = (self.model.board, self.model.tally);
         let works = is_working(&before, &self.model.memory[..step.memory_length]);
         let library_says = library::is_working(&self.library, step.memory_length);
         let (answer, library_answer) = self.answers(step);
         let mut differences = self.differences();
+        differences.extend(self.differences_of_sums());
+        let noted = [tally_before, self.model.tally];
         if library_says != works {
             differences.push(format!("is_working: library {library_says}, model {works}"));
         }
@@ -80,7 +109,7 @@ impl Pair {
         if let (Some((model, library)), false) = (kept, works) {
             (self.model, self.library) = (model, library);
         }
-        Outcome { before, answer, differences }
+        Outcome { before, answer, noted, differences }
     }
 
     fn answers(&mut self, step: &Step) -> (u32, u32) {
@@ -88,6 +117,8 @@ impl Pair {
         let memory = &mut model.memory[..step.memory_length];
         let eeprom = &mut model.eeprom[..step.eeprom_length];
         let answer = board::step(&mut model.board, memory, eeprom, &step.event).number();
+        model.tally.counts = model.tally.counts.with(tally::happened());
+        library::note(&mut self.library, step);
         (answer, library::step(&mut self.library, step))
     }
 }

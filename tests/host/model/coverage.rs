@@ -5,13 +5,14 @@ use crate::compare::Outcome;
 use crate::counter::Mode;
 use crate::damage::Damages;
 use crate::event::Event;
+use crate::noted::{self, Noted};
 use crate::pages::{commands_in, transfer_of, NO_TRANSFER};
 use crate::record::Board;
 use crate::step::Step;
 use crate::words;
 use std::collections::BTreeMap;
 
-/// What a run must reach besides word reads, places on the circle, refusals and damaged fields.
+/// What a run must reach besides word reads, tallies, places on the circle, refusals and damaged fields.
 const MUST_BE_REACHED: [&str; 44] = [
     "512 held",
     "OVF set",
@@ -88,6 +89,10 @@ impl Coverage {
         self.events += 1;
         let before = &outcome.before;
         self.reach_all(words::MUST_BE_REACHED, words::reached(&step.event, before, outcome.answer));
+        let (event, answer, tallies) = (&step.event, outcome.answer, &outcome.noted);
+        let noted = Noted { event, answer, before, tallies };
+        self.reach_all(noted::CONVERSIONS, noted.conversions());
+        self.reach_all(noted::SAMPLES, noted.samples());
         if outcome.answer >> 29 == 3 {
             let refusal = outcome.answer >> 24 & 31;
             self.refusals[refusal as usize] += 1;
@@ -239,7 +244,8 @@ impl Coverage {
         println!("{} events", self.events);
         let mut counts: Vec<(String, u64)> = Vec::new();
         let of_samples = words::MUST_BE_REACHED.into_iter().chain(circle::MUST_BE_REACHED);
-        for name in MUST_BE_REACHED.into_iter().chain(of_samples) {
+        let of_tallies = noted::CONVERSIONS.into_iter().chain(noted::SAMPLES);
+        for name in MUST_BE_REACHED.into_iter().chain(of_samples).chain(of_tallies) {
             counts.push((name.to_string(), *self.reached.get(name).unwrap_or(&0)));
         }
         for refusal in 1..=10 {

@@ -42,6 +42,7 @@ impl Generator {
         self.left -= 1;
         let event = User { random: &mut self.random, board: &lent.board }.event(self.kind);
         let mut step = Step::plain(event);
+        step.by_record = self.random.once_in(2);
         if event == Event::Tick && self.random.once_in(8) {
             step.event = Event::Advance { ticks: self.many_ticks() };
         }
@@ -183,10 +184,11 @@ impl Generator {
         }
     }
 
-    /// Other contents of the sample memory or the EEPROM.
+    /// Other contents of the sample memory or the EEPROM, or a tally near the end of its numbers.
     fn rearrange_memories(&mut self, step: &mut Step, lent: &Lent) {
         let fifo = &lent.board.fifo;
-        let change = match self.random.below(6) {
+        let change = match self.random.below(7) {
+            6 => Change::Tally { below: self.random.pick(&[0, 1, 2, 3, 100, 511, 512, 513]) },
             0 | 1 => Change::EepromByte {
                 address: self.random.pick(&[0, 1, 7, 8, 100, EEPROM_LENGTH - 1]),
                 value: self.random.byte(),

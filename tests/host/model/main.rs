@@ -1,9 +1,10 @@
 //! Compares the library with an independent model of the board over random events.
 //!
 //! `model SEED EVENTS [RUNS]` makes RUNS runs of EVENTS events each. After each event the answer,
-//! the whole record and both memories of library and model are compared. `model bytes SEED RECORDS`
-//! does so for one event on each of RECORDS records of any bytes. Exit status 0: no difference, and
-//! everything that must be reached was; 1: otherwise; 2: wrong command line.
+//! the whole record, both memories and the tally of library and model are compared, and whether that
+//! adds up. `model bytes SEED RECORDS` does so for one event on each of RECORDS records of any bytes.
+//! Exit status 0: no difference, and everything that must be reached was; 1: otherwise; 2: wrong
+//! command line.
 
 mod board;
 mod bus;
@@ -17,6 +18,7 @@ mod event;
 mod fields;
 mod generator;
 mod library;
+mod noted;
 mod other_uses;
 mod pages;
 mod random;
@@ -24,6 +26,7 @@ mod record;
 mod sampling;
 mod shrink;
 mod step;
+mod tally;
 mod timing;
 mod uses;
 mod words;
@@ -58,9 +61,9 @@ fn fresh_boards_agree() -> bool {
 fn fresh_stores_agree() -> bool {
     let mut agree = true;
     let filled = Lent {
-        board: record::fresh(0, 0),
         memory: [0x1234; MEMORY_ROOM],
         eeprom: [0x56; EEPROM_ROOM],
+        ..Lent::fresh(Start { jumpers: 0, zero_scale: 0 })
     };
     for memory_length in [0, 1, 511, 512, 513, MEMORY_ROOM] {
         for eeprom_length in [0, 1, 127, 128, 129, EEPROM_ROOM] {

@@ -1,6 +1,7 @@
 //! Conversions, scans and the sample memory, a circle in which place 0 follows place 511.
 
-use crate::record::Board;
+use crate::record::{Board, Converter};
+use crate::tally;
 use crate::working::MEMORY_LENGTH;
 
 impl Board {
@@ -13,6 +14,7 @@ impl Board {
 
     /// A conversion of the selected channel begins, and the selection moves.
     fn start_conversion(&mut self) {
+        tally::happens(|counts| counts.begun += 1);
         let converter = &mut self.converter;
         converter.converting = 1;
         converter.channel = converter.selected;
@@ -25,6 +27,7 @@ impl Board {
 
     /// The conversion in progress ends with a code.
     pub fn conversion_end(&mut self, memory: &mut [u16], code: i16) {
+        tally::happens(|counts| counts.ended += 1);
         self.keep_or_lose(memory, code as u16);
         let converter = &self.converter;
         if converter.scanen != 0 && converter.channel != converter.high {
@@ -41,6 +44,7 @@ impl Board {
             memory[(place + held) % MEMORY_LENGTH] = sample;
             self.fifo.held += 1;
         } else {
+            tally::happens(|counts| counts.lost += 1);
             self.fifo.ovf = 1;
         }
     }
@@ -66,6 +70,7 @@ impl Board {
         if self.fifo.held == 0 {
             return;
         }
+        tally::happens(|counts| counts.read += 1);
         let place = usize::from(self.fifo.place);
         memory[place] = 0;
         self.fifo.held -= 1;
@@ -74,7 +79,14 @@ impl Board {
         self.fifo.ovf = 0;
     }
 
+    /// A reset: what is in progress is abandoned.
+    pub fn abandon_conversion(&mut self) {
+        tally::happens(|counts| counts.abandoned += u64::from(self.converter.converting));
+        self.converter = Converter::default();
+    }
+
     pub fn empty_memory(&mut self, memory: &mut [u16]) {
+        tally::happens(|counts| counts.cleared += u64::from(self.fifo.held));
         memory.fill(0);
         self.fifo.held = 0;
         self.fifo.place = 0;

@@ -36,8 +36,8 @@ fn lend_plainly(start: Start, mut steps: Vec<Step>) -> Vec<Step> {
             }
         }
         let mut simpler = steps.clone();
-        simpler[index] =
-            Step { changes: steps[index].changes.clone(), ..Step::plain(steps[index].event) };
+        let Step { event, by_record, ref changes, .. } = steps[index];
+        simpler[index] = Step { changes: changes.clone(), by_record, ..Step::plain(event) };
         if !steps[index].has_right_lengths() && first_difference(start, &simpler).is_some() {
             steps = simpler;
         }

@@ -3,6 +3,7 @@
 use crate::event::Event;
 use crate::fields::{field_name, set_field};
 use crate::record::{fresh, Board, Fifo};
+use crate::tally::{Kept, Tally};
 use crate::working::{EEPROM_LENGTH, MEMORY_LENGTH};
 use std::fmt;
 
@@ -13,12 +14,13 @@ pub const EEPROM_ROOM: usize = 256;
 const MEMORY_BEYOND: u16 = 0xB0B0;
 const EEPROM_BEYOND: u8 = 0xB0;
 
-/// The record and both memories of one board.
+/// The record and both memories of one board, and the tally that the host keeps beside it.
 #[derive(Clone, PartialEq, Eq)]
 pub struct Lent {
     pub board: Board,
     pub memory: [u16; MEMORY_ROOM],
     pub eeprom: [u8; EEPROM_ROOM],
+    pub tally: Kept,
 }
 
 impl Lent {
@@ -28,7 +30,8 @@ impl Lent {
         let mut eeprom = [EEPROM_BEYOND; EEPROM_ROOM];
         memory[..MEMORY_LENGTH].fill(0);
         eeprom[..EEPROM_LENGTH].fill(0);
-        Lent { board: fresh(start.jumpers, start.zero_scale), memory, eeprom }
+        let board = fresh(start.jumpers, start.zero_scale);
+        Lent { board, memory, eeprom, tally: Kept::begun(board, Tally::default()) }
     }
 }
 
@@ -50,11 +53,18 @@ pub enum Change {
     EepromByte { address: usize, value: u8 },
     /// The sample memory holds so many samples from a place on, without OVF.
     Held { held: u16, place: u16, first: u16 },
+    /// The counts of the tally stand so many below the highest.
+    Tally { below: u64 },
 }
 
 impl Change {
+    /// The change is no event: where it concerns what the tally adds up, the tally begins anew.
     pub fn apply(&self, lent: &mut Lent) {
+        let before = lent.board;
         match *self {
+            Change::Tally { below } => {
+                lent.tally = Kept::begun(before, Tally::near_the_end(below));
+            }
             Change::Field { field, value } => set_field(&mut lent.board, field, value),
             Change::Place { place, value } => lent.memory[place] = value,
             Change::EepromByte { address, value } => lent.eeprom[address] = value,
@@ -66,6 +76,12 @@ impl Change {
                     lent.memory[at] = if number < held { sample } else { 0 };
                 }
             }
+        }
+        let board = lent.board;
+        if (board.fifo.held, board.converter.converting)
+            != (before.fifo.held, before.converter.converting)
+        {
+            lent.tally = Kept::begun(board, Tally::default());
         }
     }
 }
@@ -79,6 +95,7 @@ impl fmt::Display for Change {
             Change::Held { held, place, first } => {
                 write!(out, "memory holds {held} from {place} on: {first}, and each next 257 more")
             }
+            Change::Tally { below } => write!(out, "counts of the tally {below} below the highest"),
         }
     }
 }
@@ -90,6 +107,8 @@ pub struct Step {
     pub memory_length: usize,
     pub eeprom_length: usize,
     pub event: Event,
+    /// The event goes to the library as a record of numbers.
+    pub by_record: bool,
 }
 
 impl Step {
@@ -100,6 +119,7 @@ impl Step {
             memory_length: MEMORY_LENGTH,
             eeprom_length: EEPROM_LENGTH,
             event,
+            by_record: false,
         }
     }
 
@@ -116,6 +136,6 @@ impl fmt::Display for Step {
         if !self.has_right_lengths() {
             write!(out, "[lengths {} and {}] ", self.memory_length, self.eeprom_length)?;
         }
-        write!(out, "{}", self.event)
+        write!(out, "{}{}", self.event, if self.by_record { ", by its record" } else { "" })
     }
 }

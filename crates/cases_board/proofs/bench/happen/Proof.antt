@@ -11,6 +11,21 @@ returns c = search needs
 returns-2 : tie.Need-returns-2
 returns-2 c = search needs
 
+slice-reshare-prefix-note : tie.Need-slice-reshare-prefix-note
+slice-reshare-prefix-note c = search needs
+
+slice-aggregate-note : tie.Need-slice-aggregate-note
+slice-aggregate-note c = sym (length-take-le _ _ (search needs))
+
+slice-reshare-prefix-note-2 : tie.Need-slice-reshare-prefix-note-2
+slice-reshare-prefix-note-2 c = search needs
+
+slice-aggregate-note-2 : tie.Need-slice-aggregate-note-2
+slice-aggregate-note-2 c = sym (length-take-le _ _ (search needs))
+
+note-requires : tie.Need-note-requires
+note-requires c κs = search needs
+
 slice-relend-prefix-step : tie.Need-slice-relend-prefix-step
 slice-relend-prefix-step c = search needs
 
@@ -44,6 +59,11 @@ happen-spec =
     tie.spec
     returns
     returns-2
+    slice-reshare-prefix-note
+    slice-aggregate-note
+    slice-reshare-prefix-note-2
+    slice-aggregate-note-2
+    note-requires
     slice-relend-prefix-step
     slice-aggregate-step
     slice-relend-prefix-step-2
