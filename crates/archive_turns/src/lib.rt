@@ -1,5 +1,6 @@
 // One turn of the collector on the bus of a board (the specification, "The collector"; "a collector driving it through bus accesses"): the
 // access that the collector names is made as an event of the board, and the board's answer is handed to the collector.
+#![tactic(auto)]
 ghost use Rattle.std.specs.Prelude.{◌≡◌};
 ghost use Rattle.archive_turns.specs.Turn.{event_of, brought_by, unturned, taken_by};
 ghost use Rattle.archive_turns.specs.Real.{as_struct, Left, lent_turn};
@@ -9,14 +10,14 @@ use board::{Answer, Board, Event};
 use collector::{Access, BusAnswer, Collector, Handed};
 
 // What an access is on the board: an event, or none, with the number by which the collector names none.
-#[derive(Drop)]
+#[derive(Clone, Copy)]
 pub enum Asked {
     Made(Event),
     NotMade(u8),
 }
 
 // After a turn: the collector, the board, the polls of the current start (with a gap, of the start that ends), and what is handed over.
-#[derive(Drop)]
+#[derive(Clone, Copy)]
 pub struct Turned {
     pub collector: Collector,
     pub board: Board,

@@ -1,4 +1,5 @@
 // Many ticks in one call: specs/Advance.antt says what they come to, one event after another; crates/machine_strides takes them at once where it can.
+#![tactic(auto)]
 ghost use Rattle.std.specs.Prelude.{◌-◌, ◌≡◌};
 ghost use Rattle.machine_record.specs.Working.{WorkingMachine};
 ghost use Rattle.board_advance.specs.Advance.{advanced_of};
@@ -9,14 +10,14 @@ use machine::Board;
 use machine_strides::Stride;
 
 // The answer, and how many ticks were done.
-#[derive(Drop)]
+#[derive(Clone, Copy)]
 pub struct Progress {
     pub answer: Answer,
     pub done: u32,
 }
 
 // The record after some ticks, and what came of them.
-#[derive(Drop)]
+#[derive(Clone, Copy)]
 pub struct Advanced {
     pub board: Board,
     pub progress: Progress,

@@ -1,5 +1,6 @@
 // The register map (manual, chapters 6 to 8): what an offset names on the current page. What an access there is refused by, shows and does is defined in
 // specs/Registers.antt, a row for each place; the functions that do it are the board's.
+#![tactic(auto)]
 pub mod bytes; // the bytes that are read of several parts
 pub mod map; // what an offset names
 
@@ -8,7 +9,7 @@ use timer::Select;
 
 // What an offset names: Base0 to Base11 are the same on every page, the others are offsets 12 to 15 of a page. Beside each, what it is to a write and to a
 // read.
-#[derive(Drop)]
+#[derive(Clone, Copy)]
 pub enum Place {
     Base0, // write: start A/D conversion; read: A/D LSB
     Base1, // write: auxiliary digital output; read: A/D MSB

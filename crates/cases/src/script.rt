@@ -3,7 +3,7 @@
 ghost use Rattle.std.specs.Prelude.{◌≡◌};
 ghost use Rattle.cases.specs.Script.{fresh_script, digit_value, is_digit, named, opened, operated, stepped};
 
-#[derive(Drop)]
+#[derive(Clone, Copy)]
 pub struct Script {
     pub naming: bool,
     pub letter: u8,
@@ -11,7 +11,7 @@ pub struct Script {
 }
 
 // What a byte brings: an operation that is now complete (letter 0: none), whether the byte is to be shown, whether a line ended.
-#[derive(Drop)]
+#[derive(Clone, Copy)]
 pub struct Step {
     pub script: Script,
     pub letter: u8,

@@ -5,7 +5,7 @@ use board::{Din, Event, Jumpers};
 use collector::Settings;
 
 // An event of the board comes with the offset at which its answer is viewed, 0 where it is not.
-#[derive(Drop)]
+#[derive(Clone, Copy)]
 pub enum Deed {
     Happen(Event, u8),
     Turn,

@@ -4,7 +4,7 @@
 // What of a line has been read: how often it is to happen (0: not said), the word's first letter (0: none yet), the numbers of its fields
 // (field 0 is the word), the field that is being read, whether a minus stood in the line, how many bytes of a comment are those of a name
 // (9: it is none), whether the line ended.
-#[derive(Drop)]
+#[derive(Clone, Copy)]
 pub struct WorldLine {
     pub times: u32,
     pub letter: u8,

@@ -1,5 +1,6 @@
 // Runs the worlds of standard input over the compiled board and collector together: the line language is that of the comment at the head of
 // tests/archive/worlds.txt. A line is read in lines.rt and taken apart into deeds in deeds.rt; the collector's side is in tallies.rt.
+#![tactic(auto)]
 mod deeds;
 mod lines;
 mod tallies;
@@ -10,14 +11,14 @@ use lines::WorldLine;
 use tallies::{Driver, Tally};
 
 // A board and the collector's side of it.
-#[derive(Drop)]
+#[derive(Clone, Copy)]
 pub struct ArchiveBench {
     pub board: Board,
     pub tally: Tally,
 }
 
 // What is fed byte by byte: the line so far, and the bench.
-#[derive(Drop)]
+#[derive(Clone, Copy)]
 pub struct ArchiveFeed {
     pub line: WorldLine,
     pub bench: ArchiveBench,

@@ -3,13 +3,13 @@ use super::deeds::Deed;
 use board::Answer;
 use collector::{Collector, Handed, Sample, Settings, Started};
 
-#[derive(Drop)]
+#[derive(Clone, Copy)]
 pub enum Driver {
     NoDriver,
     Driving(Collector),
 }
 
-#[derive(Drop)]
+#[derive(Clone, Copy)]
 pub struct Tally {
     pub driver: Driver,
     pub samples: u64,

@@ -5,7 +5,7 @@ use cases_board_host::view;
 use libc::STDOUT_FILENO;
 use tally::Tally;
 
-#[derive(Drop)]
+#[derive(Clone, Copy)]
 pub struct BoardBench {
     pub board: Board,
     pub places: usize,

@@ -1,5 +1,6 @@
 // Runs the named cases of standard input over the compiled board: each line is a name and operations on a fresh board, jumpers A,
 // mid-scale, with fresh stores. The operations are in operations.rt, the line language in the crate cases.
+#![tactic(auto)]
 mod bench;
 mod operations;
 
@@ -8,7 +9,7 @@ use cases::Script;
 use libc::STDOUT_FILENO;
 
 // What is fed byte by byte: where the text stands, the bench, and whether there is more to read.
-#[derive(Drop)]
+#[derive(Clone, Copy)]
 pub struct BoardFeed {
     pub script: Script,
     pub bench: BoardBench,

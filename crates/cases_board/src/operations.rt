@@ -10,7 +10,7 @@ use board::{Din, Event};
 use cases_board_host::{spoil, view};
 
 // What an operation asks for: one event, so many ticks, so many conversions, or a thing that the host does.
-#[derive(Drop)]
+#[derive(Clone, Copy)]
 enum Act {
     One(Event),
     ManyTicks(u32),

@@ -1,5 +1,6 @@
 // Runs the named cases of standard input over the compiled collector: each line is a name and operations on settings and a record. The
 // operations are in operations.rt, what they show in shows.rt, the line language in the crate cases.
+#![tactic(auto)]
 mod operations;
 mod shows;
 
@@ -8,7 +9,7 @@ use libc::STDOUT_FILENO;
 use operations::CollectorBench;
 
 // What is fed byte by byte: where the text stands, the bench, and whether there is more to read.
-#[derive(Drop)]
+#[derive(Clone, Copy)]
 pub struct CollectorFeed {
     pub script: Script,
     pub bench: CollectorBench,

@@ -6,7 +6,7 @@
 use super::shows;
 use collector::{BusAnswer, Collector, Handed, Settings, Started};
 
-#[derive(Drop)]
+#[derive(Clone, Copy)]
 pub struct CollectorBench {
     pub settings: Settings,
     pub collector: Collector,

@@ -1,5 +1,6 @@
 // Runs the named cases of standard input over the compiled timer: each line is a name and operations on three counters that start
 // unprogrammed, with every gate high. The operations are in operations.rt, the line language in the crate cases.
+#![tactic(auto)]
 mod operations;
 
 use cases::Script;
@@ -7,7 +8,7 @@ use libc::STDOUT_FILENO;
 use operations::TimerBench;
 
 // What is fed byte by byte: where the text stands, the bench, and whether there is more to read.
-#[derive(Drop)]
+#[derive(Clone, Copy)]
 pub struct TimerFeed {
     pub script: Script,
     pub bench: TimerBench,

@@ -5,7 +5,7 @@ use libc::STDOUT_FILENO;
 use timer::accesses::Written;
 use timer::{Gates, Select, Timer};
 
-#[derive(Drop)]
+#[derive(Clone, Copy)]
 pub struct TimerBench {
     pub timer: Timer,
     pub gates: Gates,

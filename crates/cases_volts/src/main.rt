@@ -1,5 +1,6 @@
 // Runs named cases over the compiled volts and output codes: the worked examples and tables of the manual's chapters 9, 13 and 14, and the edges of
 // every range. Each line is a name and what came out; the file stdout has what the papers say.
+#![tactic(auto)]
 mod inputs;
 mod outputs;
 mod show;

@@ -1,4 +1,5 @@
 // How what came of a bus access is read: specs/Answers.antt.
+#![tactic(auto)]
 ghost use Rattle.std.specs.Prelude.{◌≡◌};
 ghost use Rattle.collector_answers.specs.Answers.{wide, STS, EF, FF, sample_at};
 
@@ -6,7 +7,7 @@ use samples::Sample;
 
 // What came of an access: the number that the bus brought (a byte, a word, or for a write anything), nothing, where a word was read and none was there, or
 // the number by which the board refused it.
-#[derive(Drop)]
+#[derive(Clone, Copy)]
 pub enum BusAnswer {
     Number(u16),
     Refused(u8),

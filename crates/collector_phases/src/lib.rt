@@ -1,5 +1,6 @@
 // The collector's record and its phases: the bus access that each names, and what each asks of the record. specs/Phases.antt, specs/Fit.antt and
 // specs/Accesses.antt.
+#![tactic(auto)]
 ghost use Rattle.std.specs.Prelude.{◌≡◌};
 ghost use Rattle.collector_phases.specs.Phases.{phase_of, access_in};
 ghost use Rattle.collector_phases.specs.Fit.{fit_in, fit};
@@ -10,7 +11,7 @@ use collector_settings::Settings;
 // The record: the phase as a number (specs/Phases.antt), the channel of the next sample, the polls of the current start, and the word reads
 // that are left of a drain.
 #[repr(C)]
-#[derive(Drop)]
+#[derive(Clone, Copy)]
 pub struct Collector {
     pub settings: Settings,
     pub phase: u8,
@@ -21,7 +22,7 @@ pub struct Collector {
 
 // The phases. Start: 9←0, read 8, 11←range code, 7←02, 2←low, 3←high, 9←02 or 03. Then look (read 7), take (a word read), drain (512 word
 // reads). Stuck: the polls are used up. Unknown: a number that is no phase.
-#[derive(Drop)]
+#[derive(Clone, Copy)]
 pub enum Phase {
     Stop,
     Poll,
@@ -38,7 +39,7 @@ pub enum Phase {
 }
 
 // The one bus access of a phase, or the number by which none is named.
-#[derive(Drop)]
+#[derive(Clone, Copy)]
 pub enum Access {
     WriteByte { offset: u8, value: u8 },
     ReadByte { offset: u8 },

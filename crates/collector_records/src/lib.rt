@@ -1,5 +1,6 @@
 // The collector's record as a start makes it and as an answer changes it: specs/Records.antt. The bounds that some functions require hold of every
 // fit record.
+#![tactic(auto)]
 ghost use Rattle.std.specs.Prelude.{◌≡◌, ◌<◌};
 ghost use Rattle.collector_records.specs.Records.{first_record, start_of, entered, poll_counted, draining, following, passed};
 
@@ -7,7 +8,7 @@ use collector_phases::Collector;
 use collector_settings::Settings;
 
 // A start: the collector, or a refusal.
-#[derive(Drop)]
+#[derive(Clone, Copy)]
 pub enum Started {
     Begun(Collector),
     NotBegun(u8),

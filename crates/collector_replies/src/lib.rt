@@ -1,4 +1,5 @@
 // What an answer leads to: specs/Reply.antt. The bounds that some functions require hold of every fit record.
+#![tactic(auto)]
 ghost use Rattle.std.specs.Prelude.{◌≡◌, ◌<◌, true};
 ghost use Rattle.collector_phases.specs.Fit.{fit};
 ghost use Rattle.collector_replies.specs.Reply.{after_write, after_number, answered, staying, replied_in, replied};

@@ -1,4 +1,5 @@
 // What a start of the collector is given, and what of it is refused: specs/Settings.antt.
+#![tactic(auto)]
 ghost use Rattle.std.specs.Prelude.{◌≡◌};
 ghost use Rattle.base.specs.Checks.{refusal};
 ghost use Rattle.collector_settings.specs.Settings.{lacking, limit_refused, range_checks, start_refusal, clock_byte};
@@ -6,7 +7,7 @@ ghost use Rattle.collector_settings.specs.Settings.{lacking, limit_refused, rang
 // What a start is given. Jumpers: 0 is A, 1 is B, 2 is C, 3 is D, and no other number has a channel (refusal 12). Range: the range code of
 // Base + 11. Clock: 0 is the external one, any other number the internal one. Limit: the polls that a start may make.
 #[repr(C)]
-#[derive(Drop)]
+#[derive(Clone, Copy)]
 pub struct Settings {
     pub low: u8,
     pub high: u8,

@@ -1,4 +1,5 @@
 // What the answer to a read leads to: specs/Reads.antt. The bounds that some functions require hold of every fit record.
+#![tactic(auto)]
 ghost use Rattle.std.specs.Prelude.{◌≡◌, ◌<◌};
 ghost use Rattle.collector_steps.specs.Reads.{reports, polled, looked, took, drained};
 
@@ -6,7 +7,7 @@ use collector_phases::Collector;
 use samples::Sample;
 
 // What is handed over: nothing, the end of a start, a sample, the last sample of a drain with the gap that it marks, or a refusal.
-#[derive(Drop)]
+#[derive(Clone, Copy)]
 pub enum Handed {
     Nothing,
     StartEnd,
@@ -16,7 +17,7 @@ pub enum Handed {
 }
 
 // The collector after an answer, the polls of the current start (with a gap, of the start that ends), and what is handed over.
-#[derive(Drop)]
+#[derive(Clone, Copy)]
 pub struct Taken {
     pub collector: Collector,
     pub polls: u16,

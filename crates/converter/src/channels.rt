@@ -5,7 +5,7 @@ ghost use Rattle.converter.specs.Registers.{written_low, written_high, written_s
 ghost use Rattle.converter.specs.Working.{is_working_converter};
 
 #[repr(C)]
-#[derive(Drop)]
+#[derive(Clone, Copy)]
 pub struct Converter {
     pub low: u8,
     pub high: u8,

@@ -1,4 +1,6 @@
 // Counts by bytes, and the output latch of a counter (manual, chapter 19: the data sheet): specs/Bytes.antt.
+#![tactic(auto)]
+
 ghost use Rattle.std.specs.Prelude.{◌≡◌};
 ghost use Rattle.counter_bytes.specs.Bytes.{no_bytes, piece_of, bytes_after, shown, byte_shown, read_done, read_half, bytes_read, latch_taken};
 ghost use Rattle.counter_bytes.specs.Working.{is_working_bus};
@@ -6,7 +8,7 @@ ghost use Rattle.counter_bytes.specs.Working.{is_working_bus};
 use counter_modes::Format;
 
 // A written byte: the first of two, or what makes a whole count.
-#[derive(Drop)]
+#[derive(Clone, Copy)]
 pub enum Piece {
     First(u8),
     Whole(u16),
@@ -14,7 +16,7 @@ pub enum Piece {
 
 // The output latch OL, and which byte comes next.
 #[repr(C)]
-#[derive(Drop)]
+#[derive(Clone, Copy)]
 pub struct Bus {
     pub latch: u16,
     pub latched: u8,

@@ -1,4 +1,6 @@
 // The counting element of a counter: loading and counting (manual, chapter 19: the data sheet): specs/Element.antt.
+#![tactic(auto)]
+
 ghost use Rattle.std.specs.Prelude.{◌≡◌};
 ghost use Rattle.counter_element.specs.Element.{down, load, counted_terminal, counted_rate, counted_by, first_count, piece_taken, gate_seen};
 ghost use Rattle.counter_element.specs.Element.{pulse_loads, pulse_counts, pulse_taken};
@@ -9,7 +11,7 @@ use counter_modes::{Mode, tables};
 
 // The count register CR, the counting element CE and OUT.
 #[repr(C)]
-#[derive(Drop)]
+#[derive(Clone, Copy)]
 pub struct Count {
     pub register: u16,
     pub element: u16,

@@ -1,15 +1,17 @@
 // The control word of a counter, and what the modes that it chooses differ in (manual, chapter 19: the data sheet).
+#![tactic(auto)]
+
 pub mod control;
 pub mod tables;
 
-#[derive(Drop)]
+#[derive(Clone, Copy)]
 pub enum Mode {
     TerminalCount,
     RateGenerator,
 }
 
 // How the bytes of a count come and go.
-#[derive(Drop)]
+#[derive(Clone, Copy)]
 pub enum Format {
     LeastByte,
     MostByte,
@@ -17,14 +19,14 @@ pub enum Format {
 }
 
 // What a control word asks of its counter.
-#[derive(Drop)]
+#[derive(Clone, Copy)]
 pub enum ControlCommand {
     LatchCount,
     Program(Format, Mode),
     NotModelled,
 }
 
-#[derive(Drop)]
+#[derive(Clone, Copy)]
 pub enum Setup {
     Unprogrammed,
     Programmed(Format, Mode),

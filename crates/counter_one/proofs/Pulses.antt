@@ -2,7 +2,7 @@
 -- counter after the pulse. Assumes nothing.
 use Rattle.std.proofs.Common.{◌≡◌, ℕ, Bool, true, false, not, ◌&&◌, ◌||◌, eqb, sym, refl, ap, ◌∙◌, ap₂, arith, eq-eqb, ne_eqb, eqb-true}
 use mir.Val.{bool_byte}
-use borrow.Author.Tests.{eqb-false, not_true, not-false}
+use borrow.Author.Tests.{eqb-false, not-true, not-false}
 use Rattle.base.specs.Flags.{on, flag}
 use Rattle.base.specs.Laws.{never, both}
 use Rattle.counter_modes.specs.Bits.{mode_by, rate}
@@ -103,7 +103,7 @@ module _ (c : Counter) (gate : Bool) (w : WorkingCounter c) (z : c.control ≡ 0
   after-rest h g = after (rate c.control) refl (by (rate c.control) h)
     where
       stopped : (x : Bool) → on c.count.loaded && (gate && x) ≡ false
-      stopped x = gate-stops (on c.count.loaded) gate x (not_true (on c.count.loaded && gate) g)
+      stopped x = gate-stops (on c.count.loaded) gate x (not-true (on c.count.loaded && gate) g)
 
       by : (r : Bool) → load_test c r ≡ false → taken c gate r ≡ c.count
       by true h = pulse_rests RateGenerator gate (on c.trigger) (on c.bus.halfwritten) c.count h (stopped _)

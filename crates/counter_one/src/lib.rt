@@ -1,5 +1,7 @@
 // One counter of the 82C54 (manual, chapter 19: the data sheet), modes 0 and 2, binary. Each event is a function on a counter by
 // value, total over any record, and its contract is a definition of specs/Counter.antt.
+#![tactic(auto)]
+
 use counter_bytes::Bus;
 use counter_element::Count;
 use counter_modes::{ControlCommand, Mode, Setup, control, tables};
@@ -12,7 +14,7 @@ ghost use Rattle.counter_one.specs.Counter.{unprogrammed, programmed, latched_as
 ghost use Rattle.counter_one.specs.Working.{flags_work, control_works, WorkingCounter};
 
 #[repr(C)]
-#[derive(Drop)]
+#[derive(Clone, Copy)]
 pub struct Counter {
     // the control word's six bits below SC as written; 0: unprogrammed
     pub control: u8,
@@ -23,7 +25,7 @@ pub struct Counter {
 }
 
 // The byte that a read gives, and the counter after it.
-#[derive(Drop)]
+#[derive(Clone, Copy)]
 pub struct CounterRead {
     pub byte: u8,
     pub counter: Counter,

@@ -1,7 +1,7 @@
 -- What the theorems of ModeTwo rest on: a counter in mode 2 within a period, over whole periods, and as a pulse loads it.
 use Rattle.std.specs.Prelude.{◌≡◌, ℕ, zero, suc, ◌+◌, ◌*◌, ◌/◌, ◌%◌, ◌<◌, ◌≤◌, Bool, true, false, not, ◌&&◌, ◌==◌, ◌≢◌, nat_eq, refl}
 use Rattle.std.proofs.Common.{arith, div-add-mod', mod-lt, sym, ap, ◌∙◌}
-use Rattle.std.proofs.Math.Bool.{and_false, or-true}
+use Rattle.std.proofs.Math.Bool.{and-false, or-true}
 use borrow.Author.Tests.{eqb-true, eqb-false, ne_eqb}
 use Rattle.std.proofs.Math.Arith.{digits_mod}
 use Rattle.base.specs.Flags.{on, flag}
@@ -43,7 +43,7 @@ module _ (k : Counter) {f : Format} (at : setup_of k.control ≡ Programmed f Ra
   at-element v o = part k (at_count k.count v o)
 
   pub half_no_matter : true && not (on k.bus.halfwritten && false) ≡ true
-  half_no_matter = rw (and_false (on k.bus.halfwritten))
+  half_no_matter = rw (and-false (on k.bus.halfwritten))
 
   -- ---- to the end of a period: OUT falls as the count comes to 1, and the next pulse loads
   pub out_within : (v p : ℕ) → 1 ≤ down v → p ≤ down v → on (pulses p (at-element v 1) true).count.out ≡ not (p == down v)
@@ -100,7 +100,7 @@ module _ (k : Counter) {f : Format} (at : setup_of k.control ≡ Programmed f Ra
 
   pub rests : (P : Count → Type 0) → ((d : Count) → P d → P (load d true)) → P k.count → P (pulsed k false).count
   unfolding pulsed
-  rests P l h = rw (at, and_false (on k.count.loaded)) (by_choice P (pulse_loads RateGenerator (on k.trigger) k.count) (l k.count h) h)
+  rests P l h = rw (at, and-false (on k.count.loaded)) (by_choice P (pulse_loads RateGenerator (on k.trigger) k.count) (l k.count h) h)
 
   -- ---- a whole count is written
   abbrev pub written : ℕ → Counter

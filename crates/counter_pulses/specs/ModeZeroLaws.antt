@@ -2,7 +2,7 @@
 use Rattle.std.specs.Prelude.{◌≡◌, ℕ, suc, Bool, true, false, ◌&&◌, ◌||◌, List, [], ◌∷◌, ◌==◌, nat_le, refl}
 use Rattle.std.proofs.Common.{arith, sym, ap, ◌∙◌, eqb-true, le-leb}
 use Rattle.std.proofs.Math.Path.{subst⁻¹}
-use Rattle.std.proofs.Math.Bool.{and_false, or-false}
+use Rattle.std.proofs.Math.Bool.{and-false, or-false}
 use Rattle.std.proofs.lemmas.Bool.{eqb-false}
 use Rattle.std.proofs.Math.Dec.{leb-suc-zero, leb-suc-suc}
 use Rattle.base.specs.Flags.{on, flag, on-flag}
@@ -85,13 +85,13 @@ module _ (k : Counter) {f : Format} (at : setup_of k.control ≡ Programmed f Te
   module _ (h : on s.halfwritten ≡ true) where
     halted : (t v w l : ℕ) (g : Bool) → on w ≡ false → pulsed (with t v 0 w l) g ≡ with 0 v 0 w l
     unfolding pulsed
-    halted t v w l g e = rw (at, e, h, and_false g, and_false (on l))
+    halted t v w l g e = rw (at, e, h, and-false g, and-false (on l))
 
     abbrev Halted : ℕ → Bool → Counter → Type 0
     Halted v b c = (c.count.out ≡ 0) × (c.count.element ≡ (if b then r else v))
 
     pub halts : (t v w l : ℕ) (g : Bool) (x : List Signal) → Halted v (on w && any_pulse x) (after_signals (with t v 0 w l) g x)
-    halts t v w l g [] = rw (and_false (on w)) (refl, refl)
+    halts t v w l g [] = rw (and-false (on w)) (refl, refl)
     halts t v w l g (clk ∷ x) = by (on w) refl (halts 0 r 0 1 g x) (halts 0 v w l g x)
       where
         by : (b : Bool) → on w ≡ b → Halted r false (after_signals (with 0 r 0 0 1) g x) → Halted v (on w && any_pulse x) (after_signals (with 0 v 0 w l) g x)
@@ -106,10 +106,10 @@ module _ (k : Counter) {f : Format} (at : setup_of k.control ≡ Programmed f Te
   pub whole-written : {n : ℕ} → piece_of f k.bus b ≡ Whole n
       → byte_written k b ≡ with k at (bytes_after k.bus (Whole n)) n k.trigger k.count.element 0 1 k.count.loaded
   unfolding byte_written
-  whole-written q = rw (at, q, and_false (on k.count.out))
+  whole-written q = rw (at, q, and-false (on k.count.out))
 
   pub first-written : {c : ℕ} → piece_of f k.bus b ≡ First c
       → byte_written k b
       ≡ with k at (bytes_after k.bus (First c)) k.count.register k.trigger k.count.element 0 k.count.waiting k.count.loaded
   unfolding byte_written
-  first-written q = rw (at, q, and_false (on k.count.out))
+  first-written q = rw (at, q, and-false (on k.count.out))

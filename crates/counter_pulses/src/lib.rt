@@ -1,5 +1,6 @@
 // Many CLK pulses at one counter of the 82C54 at once (manual, chapter 19: the data sheet), modes 0 and 2: how many move its count alone, the
 // counter after so many, and the pulses of its period in mode 2. As `counter_one::pulse_working` does, the mode is read from bit 2 of the control bits.
+#![tactic(auto)]
 ghost use Rattle.std.specs.Prelude.{◌≡◌};
 ghost use Rattle.counter_one.specs.Working.{WorkingCounter};
 ghost use Rattle.counter_pulses.specs.Pulses.{quiet_pulses, leapt_counter};
@@ -9,14 +10,14 @@ ghost use Rattle.counter_pulses.specs.Faces.{settled, face_of, pace_of, faced, f
 use counter_one::Counter;
 
 // What pulses change of a counter that has no trigger and no count to load.
-#[derive(Drop)]
+#[derive(Clone, Copy)]
 pub struct Face {
     pub element: u16,
     pub out: u8,
 }
 
 // What they go by: whether it counts, whether in mode 2, and the count that mode 2 loads again.
-#[derive(Drop)]
+#[derive(Clone, Copy)]
 pub struct Pace {
     pub counts: bool,
     pub rate: bool,

@@ -1,12 +1,13 @@
 // The sample memory (manual 11.2 and Base + 7): a record by value, and 512 places that the caller lends, as a circle: place 0 follows place 511. Promises
 // speak of the samples held, oldest first (`queue`), and of the memory that holds them (`layout`). Which places those are is known in this crate alone.
+#![tactic(auto)]
 ghost use Rattle.std.specs.Prelude.{◌≡◌, [], ◌&&◌, ◌+◌, ◌*◌, ◌≤◌, eqb, ltb, length, take, drop};
 ghost use Rattle.fifo.specs.Samples.{oldest_of, low_byte_of, high_byte_of, pushed, popped};
 ghost use Rattle.fifo.specs.Flags.{EF, HF, FF, flag_bits};
 ghost use Rattle.fifo.specs.Queue.{turned, zeros, queue, empty_fifo, pushed_to, place_after, popped_from, Leaves, is_working_fifo, WorkingFifo};
 
 #[repr(C)]
-#[derive(Drop)]
+#[derive(Clone, Copy)]
 pub struct Fifo {
     pub held: u16,
     // the place of the oldest sample; 0 where none is held
@@ -16,7 +17,7 @@ pub struct Fifo {
 }
 
 // What a read finds: no sample held, or the oldest one. Every number of 16 bits is a sample.
-#[derive(Drop)]
+#[derive(Clone, Copy)]
 pub enum OldestSample {
     NoneHeld,
     Sample(u16),

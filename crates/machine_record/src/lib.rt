@@ -1,5 +1,6 @@
 // The board's record: fresh, working, and as it shows on the pins. What ticks, pins and resets make of it stands in crates above; none of
 // them sees the sample memory or the EEPROM. Each contract is a definition of specs/.
+#![tactic(auto)]
 ghost use Rattle.std.specs.Prelude.{◌≡◌};
 ghost use Rattle.base.specs.Tests.{all};
 ghost use Rattle.machine_record.specs.Fresh.{fresh_registers, fresh_board, jumpers_number};
@@ -15,7 +16,7 @@ use requests::Requests;
 use timer::Timer;
 
 // The channel configuration of manual 5.4.
-#[derive(Drop)]
+#[derive(Clone, Copy)]
 pub enum Jumpers {
     A,
     B,
@@ -25,7 +26,7 @@ pub enum Jumpers {
 
 // Registers that belong to no other part: the page of Base+8, DOUT (Base+1), Base+10, and the low four bits of Base+11.
 #[repr(C)]
-#[derive(Drop)]
+#[derive(Clone, Copy)]
 pub struct Registers {
     pub page: u8,
     pub dout: u8,
@@ -35,7 +36,7 @@ pub struct Registers {
 
 // The 82C54 and the dividers that make 100 kHz and 10 kHz of the 10 MHz clock: the ticks since the last pulse of each.
 #[repr(C)]
-#[derive(Drop)]
+#[derive(Clone, Copy)]
 pub struct Clocks {
     pub timer: Timer,
     pub hundred: u16,
@@ -44,7 +45,7 @@ pub struct Clocks {
 
 // The levels of DIN3-0 and of the Latch pin.
 #[repr(C)]
-#[derive(Drop)]
+#[derive(Clone, Copy)]
 pub struct Pins {
     pub din: u8,
     pub latch: u8,
@@ -52,14 +53,14 @@ pub struct Pins {
 
 // The jumpers: channel configuration 0 to 3 for A to D, and whether the outputs go to zero scale at a reset.
 #[repr(C)]
-#[derive(Drop)]
+#[derive(Clone, Copy)]
 pub struct Wiring {
     pub inputs: u8,
     pub zeroscale: u8,
 }
 
 #[repr(C)]
-#[derive(Drop)]
+#[derive(Clone, Copy)]
 pub struct Board {
     pub converter: Converter,
     pub requests: Requests,

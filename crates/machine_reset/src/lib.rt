@@ -1,4 +1,5 @@
 // Resets by Base+8: specs/Reset.antt, where INTRST and the page are defined too.
+#![tactic(auto)]
 ghost use Rattle.std.specs.Prelude.{◌≡◌};
 ghost use Rattle.machine_reset.specs.Reset.{outputs_reset, board_reset, is_reset};
 

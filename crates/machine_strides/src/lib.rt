@@ -1,5 +1,6 @@
 // Ticks of a working board's clocks, many in one call: specs/Strides.antt. Ticks in which counts alone move, and whole periods of counter 1, are taken at once
 // (skips.rt); any other is one tick, mostly by the counts and OUTs of counters 1 and 2 alone (specs/Settled.antt). `counting` is the byte of Base+10.
+#![tactic(auto)]
 ghost use Rattle.std.specs.Prelude.{◌≡◌};
 ghost use Rattle.base.specs.Choice.{if◌then◌else◌};
 ghost use Rattle.machine_record.specs.Working.{WorkingClocks};
@@ -15,7 +16,7 @@ use timer::Gates;
 mod skips; // ticks that are passed over at once
 
 // The clocks after some ticks, how many were done, and whether OUT0 or OUT2 fell in the last one, where it was heard.
-#[derive(Drop)]
+#[derive(Clone, Copy)]
 pub struct Stride {
     pub clocks: Clocks,
     pub done: u32,

@@ -12,7 +12,7 @@ use machine_record::Clocks;
 use timer::Gates;
 
 // The clocks after ticks in which neither OUT0 nor OUT2 falls, and how many.
-#[derive(Drop)]
+#[derive(Clone, Copy)]
 pub struct Skip {
     pub clocks: Clocks,
     pub ticks: u32,

@@ -1,4 +1,5 @@
 // The board by value, with its answers as plain numbers, for hosts in other languages (include/cowriestep.h): so that the exported functions only pass them on.
+#![tactic(auto)]
 ghost use Rattle.std.specs.Prelude.{◌≡◌};
 ghost use Rattle.board_stores.specs.Stores.{fresh_memory, fresh_eeprom, stores_answer};
 ghost use Rattle.numbers_answers.specs.Packed.{answer_number};
@@ -15,7 +16,7 @@ pub mod turning; // one turn of the collector on the board
 
 // The record after an event, and its answer as one number.
 #[repr(C)]
-#[derive(Drop)]
+#[derive(Clone, Copy)]
 pub struct Numbered {
     pub board: Board,
     pub number: u32,
@@ -23,7 +24,7 @@ pub struct Numbered {
 
 // The sample memory's record after a word read, and its answer as one number.
 #[repr(C)]
-#[derive(Drop)]
+#[derive(Clone, Copy)]
 pub struct WordNumbered {
     pub fifo: Fifo,
     pub number: u32,
@@ -31,7 +32,7 @@ pub struct WordNumbered {
 
 // The answer to many ticks, and how many were done.
 #[repr(C)]
-#[derive(Drop)]
+#[derive(Clone, Copy)]
 pub struct ProgressNumbered {
     pub answer: u32,
     pub done: u32,
@@ -39,7 +40,7 @@ pub struct ProgressNumbered {
 
 // The record after them, and what came of them.
 #[repr(C)]
-#[derive(Drop)]
+#[derive(Clone, Copy)]
 pub struct AdvancedNumbered {
     pub board: Board,
     pub progress: ProgressNumbered,
@@ -47,7 +48,7 @@ pub struct AdvancedNumbered {
 
 // The board's record after a turn, and what the collector answers.
 #[repr(C)]
-#[derive(Drop)]
+#[derive(Clone, Copy)]
 pub struct TurnNumbered {
     pub board: Board,
     pub taken: TakenAnswer,

@@ -1,4 +1,5 @@
 // The collector by value, in records of numbers, for hosts in other languages (include/cowriestep.h): so that the exported functions only pass them on.
+#![tactic(auto)]
 ghost use Rattle.std.specs.Prelude.{◌≡◌, length};
 ghost use Rattle.collector_records.specs.Records.{start_of};
 ghost use Rattle.collector_phases.specs.Accesses.{access_of};
@@ -11,7 +12,7 @@ use collector::{Access, BusAnswer, Collector, Handed, Sample, Settings, Started,
 
 // A start: the record and 0, or no record and the refusal.
 #[repr(C)]
-#[derive(Drop)]
+#[derive(Clone, Copy)]
 pub struct StartAnswer {
     pub collector: Collector,
     pub refusal: u16,
@@ -19,7 +20,7 @@ pub struct StartAnswer {
 
 // The access that is named: 0 none, 1 byte write, 2 byte read, 3 word read.
 #[repr(C)]
-#[derive(Drop)]
+#[derive(Clone, Copy)]
 pub struct AccessNamed {
     pub kind: u8,
     pub offset: u8,
@@ -29,7 +30,7 @@ pub struct AccessNamed {
 
 // What came of an access: 0 the number that the bus brought, 2 nothing; any other kind is a refusal of the board.
 #[repr(C)]
-#[derive(Drop)]
+#[derive(Clone, Copy)]
 pub struct BusNumbers {
     pub number: u16,
     pub kind: u8,
@@ -39,7 +40,7 @@ pub struct BusNumbers {
 // The collector's record after an answer, the polls, and what is handed over: 0 nothing, 1 the end of a start, 2 a sample, 3 the last one of a drain, 4 a
 // refusal.
 #[repr(C)]
-#[derive(Drop)]
+#[derive(Clone, Copy)]
 pub struct TakenAnswer {
     pub collector: Collector,
     pub polls: u16,

@@ -1,4 +1,5 @@
 // Any event as one record of numbers, for hosts in other languages (include/cowriestep.h), and the step that it makes, by value.
+#![tactic(auto)]
 ghost use Rattle.std.specs.Prelude.{◌≡◌};
 ghost use Rattle.board_step.specs.Step.{step_of, memory_after, eeprom_after};
 ghost use Rattle.numbers.specs.Outcomes.{numbered_of};
@@ -9,7 +10,7 @@ use numbers::Numbered;
 
 // An event: its kind, 1 to 11, and what it carries. What a kind does not have is not looked at.
 #[repr(C)]
-#[derive(Drop)]
+#[derive(Clone, Copy)]
 pub struct EventNumbers {
     pub kind: u8,
     pub value: u8,

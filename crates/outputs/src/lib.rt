@@ -1,5 +1,6 @@
 // The analogue outputs (manual, chapters 13 and 14; Base+4 and Base+5): four 12-bit codes, the load that an update brings to
 // one of them, and DACBUSY. Each function's contract is a definition of specs/Outputs.antt.
+#![tactic(auto)]
 ghost use Rattle.std.specs.Prelude.{◌≡◌, ◌-◌};
 ghost use Rattle.outputs.specs.Outputs.{reset_code, code_after, updated_codes, code_on, dacbusy, update_answer};
 ghost use Rattle.outputs.specs.Outputs.{lsb_written, msb_written, updated, dac_ticked, reset_a, reset_d, reset_to, codes_with, load_of, level};
@@ -7,7 +8,7 @@ ghost use Rattle.outputs.specs.Working.{is_working_outputs};
 
 // The 12-bit code of each output channel.
 #[repr(C)]
-#[derive(Drop)]
+#[derive(Clone, Copy)]
 pub struct Codes {
     pub out0: u16,
     pub out1: u16,
@@ -17,7 +18,7 @@ pub struct Codes {
 
 // What the D/A chip's load register holds: whether anything was loaded since a reset, for which channel, and the code.
 #[repr(C)]
-#[derive(Drop)]
+#[derive(Clone, Copy)]
 pub struct Load {
     pub loaded: u8,
     pub channel: u8,
@@ -26,7 +27,7 @@ pub struct Load {
 
 // The outputs: their codes, the load, the holding byte of Base+4, and the ticks of DACBUSY that are left.
 #[repr(C)]
-#[derive(Drop)]
+#[derive(Clone, Copy)]
 pub struct Outputs {
     pub codes: Codes,
     pub load: Load,

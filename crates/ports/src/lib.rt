@@ -1,5 +1,6 @@
 // The digital ports (manual, 8.2 and chapter 16; page 1 of the register map): an 82C55 in mode 0. Each function's contract is a
 // definition of specs/Ports.antt.
+#![tactic(auto)]
 ghost use Rattle.std.specs.Prelude.{◌≡◌};
 ghost use Rattle.ports.specs.Ports.{line_of, with_line, no_lines, high_input, low_input, joined, by_line, control_taken, port_control_refused};
 ghost use Rattle.ports.specs.Ports.{port_control_written, control_read, latch_written, port_read, pins_set, driven, levels, reset_ports, fresh_ports};
@@ -7,7 +8,7 @@ ghost use Rattle.base.specs.Choice.{if◌then◌else◌};
 ghost use Rattle.ports.specs.Working.{is_working_ports};
 
 // A port of eight lines.
-#[derive(Drop)]
+#[derive(Clone, Copy)]
 pub enum Port {
     PortA,
     PortB,
@@ -16,7 +17,7 @@ pub enum Port {
 
 // A byte for each port.
 #[repr(C)]
-#[derive(Drop)]
+#[derive(Clone, Copy)]
 pub struct Lines {
     pub a: u8,
     pub b: u8,
@@ -25,7 +26,7 @@ pub struct Lines {
 
 // The control byte, the output latches, and the levels of the pins.
 #[repr(C)]
-#[derive(Drop)]
+#[derive(Clone, Copy)]
 pub struct Ports {
     pub control: u8,
     pub latches: Lines,

@@ -1,4 +1,5 @@
 // The settings of requests and the request flags (manual 11.1, 11.2, Base + 6, 7, 8, 9).
+#![tactic(auto)]
 ghost use Rattle.std.specs.Prelude.{◌≡◌};
 ghost use Rattle.requests.specs.Requests.{asked_ad, asked_latch, asked_timer, flags_cleared, asking};
 ghost use Rattle.requests.specs.Registers.{written_depth, written_fifoen, written_enables, FIFORST, mode_bits, request_bits, fresh_requests};
@@ -7,7 +8,7 @@ ghost use Rattle.requests.specs.Working.{is_working_requests};
 use converter::channels::Converter;
 
 #[repr(C)]
-#[derive(Drop)]
+#[derive(Clone, Copy)]
 pub struct Flags {
     pub adint: u8,
     pub dint: u8,
@@ -15,7 +16,7 @@ pub struct Flags {
 }
 
 #[repr(C)]
-#[derive(Drop)]
+#[derive(Clone, Copy)]
 pub struct Requests {
     pub threshold: u8,
     pub fifoen: u8,

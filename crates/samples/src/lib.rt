@@ -1,12 +1,13 @@
 // Samples of the A/D converter: the record of one, the channels and range codes that none can come from (specs/Refused.antt), and whole scans of
 // them (specs/Scans.antt).
+#![tactic(auto)]
 ghost use Rattle.std.specs.Prelude.{◌≡◌};
 ghost use Rattle.samples.specs.Refused.{bad_range, code_refused};
 ghost use Rattle.samples.specs.Scans.{WholePart};
 
 // A sample that is handed over: its channel and its signed code.
 #[repr(C)]
-#[derive(Drop)]
+#[derive(Clone, Copy)]
 pub struct Sample {
     pub channel: u16,
     pub code: i16,

@@ -1,5 +1,6 @@
 // The session program: a session over standard input and standard output. What a line does and is answered by is in the crates below; each read and its answer
 // in pieces.rt.
+#![tactic(auto)]
 mod pieces;
 
 ghost use Rattle.std.specs.Prelude.{◌≤◌, length};

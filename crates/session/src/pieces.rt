@@ -7,7 +7,7 @@ use libc::STDOUT_FILENO;
 use session_feed::Session;
 
 // The session after some bytes, how many they are, whether to go on, and whether the input has come to its end.
-#[derive(Drop)]
+#[derive(Clone, Copy)]
 pub struct AfterBytes {
     pub session: Session,
     pub taken: usize,

@@ -1,4 +1,5 @@
 // What a line asks for that was read byte after byte, and whether it has a byte.
+#![tactic(auto)]
 ghost use Rattle.std.specs.Prelude.{◌≡◌};
 ghost use Rattle.session_commands.specs.Command.{minus};
 ghost use Rattle.session_commands.specs.Ends.{number_read, command_read, is_begun};
@@ -6,7 +7,7 @@ ghost use Rattle.session_commands.specs.Ends.{number_read, command_read, is_begu
 use session_reading::{Number, Reading};
 
 // What a line asks for. The sample is the code's 16 bits.
-#[derive(Drop)]
+#[derive(Clone, Copy)]
 pub enum Command {
     WriteByte { offset: u8, value: u8 },
     ReadByte { offset: u8 },

@@ -1,5 +1,6 @@
 // A session: the text of standard input, fed piece by piece, and what is printed for it. The state is a record by value; what is printed is
 // written to a lent slice.
+#![tactic(auto)]
 ghost use Rattle.std.specs.Prelude.{◌<◌, ◌≤◌, ◌-◌, length};
 ghost use Rattle.session_talk.specs.Session.{talk_of};
 ghost use Rattle.session_feed.specs.Feeding.{FeedsOn, Feeds};
@@ -7,7 +8,7 @@ ghost use Rattle.session_feed.specs.Feeding.{FeedsOn, Feeds};
 pub use session_talk::{Session, begin, is_begun};
 
 // The session after what was fed, how much of `out` was written, and how many bytes of the piece were taken.
-#[derive(Drop)]
+#[derive(Clone, Copy)]
 pub struct Fed {
     pub session: Session,
     pub at: usize,

@@ -1,4 +1,5 @@
 // One line that was read is answered.
+#![tactic(auto)]
 ghost use Rattle.std.specs.Prelude.{◌-◌, ◌≤◌, length};
 ghost use Rattle.session_talk.specs.Session.{talk_of};
 ghost use Rattle.session_line.specs.Done.{Done, Happened, NotCommanded};
@@ -8,7 +9,7 @@ use session_reading::Reading;
 use session_talk::{Session, Wanted};
 
 // The session after a line, and the place after its answer.
-#[derive(Drop)]
+#[derive(Clone, Copy)]
 pub struct Answered {
     pub session: Session,
     pub at: usize,

@@ -1,4 +1,5 @@
 // A line of a session, of which what is kept has a fixed size, whatever the line's length.
+#![tactic(auto)]
 pub mod bytes; // whatever the bytes are
 mod whole; // the usual bytes, where a line begins
 
@@ -7,7 +8,7 @@ ghost use Rattle.session_reading.specs.Found.{Found};
 ghost use Rattle.session_reading.specs.Whole.{is_blank};
 
 // The number that a line has after its letter: the offset of W, that of R, the code of C, and that code after its minus.
-#[derive(Drop)]
+#[derive(Clone, Copy)]
 pub enum Number {
     WriteOffset,
     ReadOffset,
@@ -16,7 +17,7 @@ pub enum Number {
 }
 
 // What the bytes of a line so far are.
-#[derive(Drop)]
+#[derive(Clone, Copy)]
 pub enum Reading {
     // nothing
     Blank,
@@ -41,7 +42,7 @@ pub enum Reading {
 }
 
 // What a line's bytes are, and where the newline stands, or the piece's end.
-#[derive(Drop)]
+#[derive(Clone, Copy)]
 pub struct Line {
     pub reading: Reading,
     pub end: usize,

@@ -8,7 +8,7 @@ ghost use Rattle.session_reading.specs.Whole.{number_after, so_far, DigitsRead};
 use super::{Line, Number, Reading, bytes};
 
 // A number, and the place after its digits.
-#[derive(Drop)]
+#[derive(Clone, Copy)]
 struct Numeral {
     n: u16,
     at: usize,

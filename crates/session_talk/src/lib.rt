@@ -1,4 +1,5 @@
 // A session's record: how it begins, and whether a line of it has begun; and what a command of a line wants of the board.
+#![tactic(auto)]
 ghost use Rattle.std.specs.Prelude.{◌≡◌};
 ghost use Rattle.session_talk.specs.Session.{fresh_session, line_begun};
 ghost use Rattle.session_talk.specs.Wanted.{wanted_by};
@@ -9,7 +10,7 @@ use session_commands::Command;
 use session_reading::Reading;
 
 // The board, what the line so far is, and the number of the last line that was answered.
-#[derive(Drop)]
+#[derive(Clone, Copy)]
 pub struct Session {
     pub board: Board,
     pub reading: Reading,
@@ -17,7 +18,7 @@ pub struct Session {
 }
 
 // What a command wants: nothing, or an event.
-#[derive(Drop)]
+#[derive(Clone, Copy)]
 pub enum Wanted {
     Nothing,
     Happen(Event),

@@ -1,9 +1,10 @@
 // Text written into a lent slice: each function gets the place to write at and answers the place after it.
+#![tactic(auto)]
 ghost use Rattle.std.specs.Prelude.{◌+◌, ◌≤◌, length};
 ghost use Rattle.session_text.specs.Text.{byte_text, word_text, decimal_text, Spells, Wrote};
 
 // Decimal digits, at the end of the array from `from` on.
-#[derive(Drop)]
+#[derive(Clone, Copy)]
 pub struct Decimal {
     pub digits: [u8; 20],
     pub from: usize,

@@ -8,7 +8,7 @@ use super::Tally;
 use board::Board;
 
 // A number of up to 96 bits: how many times 2^32 it has, and what is left.
-#[derive(Drop)]
+#[derive(Clone, Copy)]
 pub struct Halves {
     pub high: u64,
     pub low: u64,

@@ -1,8 +1,9 @@
 // Where every sample and every conversion went (request M-112): definitions of what events count, and theorems that the counts add up, in specs/.
+#![tactic(auto)]
 
 // Six counts, which no board has: a host keeps them beside it.
 #[repr(C)]
-#[derive(Drop)]
+#[derive(Clone, Copy)]
 pub struct Tally {
     pub begun: u64, // conversions begun
     pub ended: u64, // conversions ended

@@ -6,14 +6,14 @@ ghost use Rattle.timer.specs.Bus.{selected, control_word_refused, control_word_w
 use crate::{Gates, Select, Timer};
 
 // What a write answers: the timer after it, or the refusal number.
-#[derive(Drop)]
+#[derive(Clone, Copy)]
 pub enum Written {
     Accepted(Timer),
     Refused(u8),
 }
 
 // The byte that a read gives, and the timer after it.
-#[derive(Drop)]
+#[derive(Clone, Copy)]
 pub struct TimerRead {
     pub byte: u8,
     pub timer: Timer,

@@ -1,5 +1,6 @@
 // The 82C54's three counters with their gates and the cascade (manual, chapters 17 and 19). Each event is a function on the three by
 // value, total over any record, and its contract is a definition of specs/Timer.antt.
+#![tactic(auto)]
 pub mod accesses; // what the bus writes to and reads of the timer
 
 ghost use Rattle.std.specs.Prelude.{◌≡◌};
@@ -10,7 +11,7 @@ ghost use Rattle.timer.specs.Working.{timer_flags_work, controls_work, is_workin
 use counter::Counter;
 
 #[repr(C)]
-#[derive(Drop)]
+#[derive(Clone, Copy)]
 pub struct Timer {
     pub counter0: Counter,
     pub counter1: Counter,
@@ -19,13 +20,13 @@ pub struct Timer {
 
 // The GATE levels: counter 0's, and the one of counters 1 and 2.
 #[repr(C)]
-#[derive(Drop)]
+#[derive(Clone, Copy)]
 pub struct Gates {
     pub gate0: bool,
     pub gate12: bool,
 }
 
-#[derive(Drop)]
+#[derive(Clone, Copy)]
 pub enum Select {
     Counter0,
     Counter1,

@@ -1,4 +1,5 @@
 // An A/D code as volts (manual, chapter 9). The C forms are in host.rt.
+#![tactic(auto)]
 ghost use Rattle.std.specs.Prelude.{◌≡◌};
 ghost use Rattle.volts.specs.Table.{row_of};
 ghost use Rattle.volts.specs.Volts.{AnswersVolts, input_voltage_of, scale_of};
@@ -6,14 +7,14 @@ ghost use Rattle.volts.specs.Volts.{AnswersVolts, input_voltage_of, scale_of};
 pub mod host;
 
 // The volts, or the number of the refusal.
-#[derive(Drop)]
+#[derive(Clone, Copy)]
 pub enum Voltage {
     Volts(f64),
     Refused(u8),
 }
 
 // What a range code selects: a polarity with its full-scale voltage, or nothing.
-#[derive(Drop)]
+#[derive(Clone, Copy)]
 enum Scale {
     Bipolar(f64),
     Unipolar(f64),
