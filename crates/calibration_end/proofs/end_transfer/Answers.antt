@@ -17,7 +17,4 @@ store_by-requires c = search rules
 
 pub returns : goal.returns
 unfolding calibration_ended eeprom_ended
-returns c = (
-  simp (c.end_by-d.ensures, c.transfer_of-t.ensures),
-  simp (c.store_by.ensures, c.transfer_of-t.ensures),
-)
+returns c = record { value = simp (c.end_by-d.ensures, c.transfer_of-t.ensures); eeprom_after = simp (c.store_by.ensures, c.transfer_of-t.ensures) }

@@ -1,5 +1,4 @@
 -- `fifo::are_zero` meets its contract. Assumes nothing.
-use borrow.Author.Rules.{rules}
 use Rattle.fifo.proofs.are_zero.Goals as goal
 
 pub returns-then-count-gt256 : goal.returns-then-count-gt256

@@ -1,10 +1,6 @@
 -- `fifo::bits_of` meets its contract: the bits joined so far are none where the places passed are 0. Assumes nothing.
 use mathlib.Core.Path.{◌≡◌, refl}
-use Prim.Native.Nat.{◌-◌, ◌≤◌}
 use native.Mathlib.Omega.{arith}
-use borrow.Author.Rules.{rules}
-use lib.ListN.{take, drop}
-use lib.Dec.{eqb}
 use Rattle.fifo.specs.Queue.{zeros}
 use Rattle.fifo.proofs.Zeros.{zeros-more}
 use Rattle.fifo.proofs.bits_of.Goals as goal

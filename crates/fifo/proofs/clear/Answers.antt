@@ -1,11 +1,9 @@
 -- `fifo::clear` meets its contract: the places passed are 0. Assumes nothing.
-use mathlib.Core.Path.{◌≡◌, refl, ◌∙◌, ap}
-use mathlib.Core.List.{◌++◌}
-use Prim.Native.Nat.{◌≤◌, ◌-◌}
+use mathlib.Core.Path.{refl, ◌∙◌, ap}
 use borrow.Author.Rules.{rules}
 use borrow.Author.Fill.{fill_more}
 use native.Mathlib.Omega.{arith}
-use lib.ListN.{length, drop, replicate, set, length-set}
+use lib.ListN.{set, length-set}
 use Rattle.fifo.specs.Queue.Steps.{cleared}
 use Rattle.fifo.proofs.clear.Goals as goal
 

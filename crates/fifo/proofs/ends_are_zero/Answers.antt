@@ -1,5 +1,4 @@
 -- `fifo::ends_are_zero` meets its contract. Assumes nothing.
-use borrow.Author.Rules.{rules}
 use Rattle.fifo.proofs.Zeros.{ends_zero}
 use Rattle.fifo.proofs.ends_are_zero.Goals as goal
 

@@ -1,6 +1,5 @@
 -- `fifo::free_are_zero` meets its contract. Assumes nothing.
 use mathlib.Core.Path.{◌∙◌}
-use borrow.Author.Rules.{rules}
 use Rattle.fifo.proofs.Zeros.{free_behind, no_place, free_around, free-between}
 use Rattle.fifo.proofs.free_are_zero.Goals as goal
 
@@ -8,7 +7,7 @@ pub returns-then-place-eq0 : goal.returns-then-place-eq0
 returns-then-place-eq0 c = c.are_zero.ensures ∙ free_behind c.args.memory.now c.args.place c.args.held c.requires.0 c.requires.1 c.if-place-eq0.true
 
 pub returns-then-place-ge512 : goal.returns-then-place-ge512
-returns-then-place-ge512 c = c.before.before.before in no_place s.args.memory.now s.args.place s.args.held s.requires.0 s.requires.1 c.if-place-ge512.true
+returns-then-place-ge512 c = no_place c.args.memory.now c.args.place c.args.held c.requires.0 c.requires.1 c.if-place-ge512.true
 
 pub returns-then-place-held-lt512 : goal.returns-then-place-held-lt512
 returns-then-place-held-lt512 c =

@@ -1,6 +1,5 @@
 -- `fifo::is_working` meets its contract. Assumes nothing.
 use mathlib.Core.Path.{◌≡◌, ◌∙◌}
-use borrow.Author.Rules.{rules}
 use borrow.Author.Tests.{eqb-true, leb-true}
 use native.Mathlib.Omega.{arith}
 use lib.ListN.{length}
@@ -30,4 +29,4 @@ returns-else-f-eq0 c =
     ∙ some_tested c.args.f c.args.memory.now c.if-memory-f.true c.if-f-eq0.false
 
 pub returns-else-memory-f : goal.returns-else-memory-f
-returns-else-memory-f c = c.before.before.before.before.before in unfit s.args.f s.args.memory.now c.if-memory-f.false
+returns-else-memory-f c = unfit c.args.f c.args.memory.now c.if-memory-f.false
