@@ -1,6 +1,7 @@
 // The collector's record and its phases: the bus access that each names, and what each asks of the record. specs/Phases.antt, specs/Fit.antt and
 // specs/Accesses.antt.
 #![tactic(auto)]
+
 ghost use Rattle.std.specs.Prelude.{◌≡◌};
 ghost use Rattle.collector_phases.specs.Phases.{phase_of, access_in};
 ghost use Rattle.collector_phases.specs.Fit.{fit_in, fit};

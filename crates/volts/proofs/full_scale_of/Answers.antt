@@ -10,26 +10,16 @@ use Rattle.volts.specs.declared.Scale.{Scale}
 use Rattle.volts.specs.declared.Scale.TheVariants.{Bipolar}
 use Rattle.volts.specs.Table.{RangeRow, absent, input_ranges}
 use Rattle.volts.specs.Volts.{scale_of}
-use Rattle.volts.proofs.full_scale_of.Statement.{statement}
-use Rattle.volts.proofs.full_scale_of.Tie as tie
+use Rattle.volts.proofs.full_scale_of.Goals as goal
 
 mapped : (rows : List RangeRow) (d : Scale) (k : ℕ) → k < length rows → get_or (map scale_of rows) k d ≡ scale_of (get_or rows k absent)
 mapped [] d k h = absurd (not-suc-le-zero h)
 mapped (r ∷ rs) d zero h = refl
 mapped (r ∷ rs) d (suc k) h = mapped rs d k (le_of_suc-le-suc h)
 
-returns : tie.Need-returns
-returns c = rw (get_or-eq_default input_ranges absent c.if1.true)
-
-mul-result : tie.Need-overflow-mul-result
-mul-result c = search rules
-
-array-copy-out-result : tie.Need-array-copy-out-result
-array-copy-out-result c = search rules
-
 returns-2 : tie.Need-returns-2
 unfolding of_bits round
 returns-2 c = mapped input_ranges (Bipolar nan) c.before.before.args.range c.before.if1.false
 
-pub full_scale_of_spec : {M : Type 1} → statement M
-full_scale_of_spec = tie.close (tie.spec returns mul-result array-copy-out-result returns-2)
+pub returns-then-row-ge16 : goal.returns-then-row-ge16
+returns-then-row-ge16 c = rw (get_or-eq_default input_ranges absent c.if-row-ge16.true)

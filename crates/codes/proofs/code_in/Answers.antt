@@ -1,5 +1,8 @@
 -- `codes::code_in` meets its contract. The height fits an `i64`, so the machine reads it back as it is; its sign and then the code pick the case.
 -- Assumes nothing.
+-- the height, of either sign, is below 2 ^ 32
+-- what the test of its sign tells
+-- the height in the code, and how the machine has it
 use mathlib.Core.Path.{◌≡◌, refl}
 use mathlib.Core.Bool.{Bool, true, false, cond, true≢false}
 use Prim.Native.Nat.{ℕ, suc, ◌-◌, ◌^◌, ◌≤◌, ◌<◌}
@@ -15,10 +18,8 @@ use mir.Val.{SFits, to_z, of_z}
 use mir.Facts.{to_z-of_z, to_z_pos, sfits_widen}
 use Rattle.codes.specs.Output.{AnswersCode, span, as_number, above, refused, in_twelve_bits, nearest}
 use Rattle.codes.specs.Nearest.{answers-nearest}
-use Rattle.codes.proofs.code_in.Statement.{statement}
-use Rattle.codes.proofs.code_in.Tie as tie
+use Rattle.codes.proofs.code_in.Goals as goal
 
--- the height, of either sign, is below 2 ^ 32
 either : (t : Bool) (x y n : ℕ) → suc x < n → y < n → nat_abs (cond t (negsuc x) (pos y)) < n
 either true x y n h k = h
 either false x y n h k = k
@@ -31,7 +32,6 @@ fits : (d : ℤ) → nat_abs d < 2 ^ 32 → SFits w64 d
 fits (pos n) h = record { sfits = omega arith }
 fits (negsuc n) h = record { sfits = omega arith }
 
--- what the test of its sign tells
 negative : (d : ℤ) (swing : ℕ) → lt_z d (pos 0) ≡ true → above d swing ≡ refused 18
 negative (pos n) swing t = absurd (not-suc-le-zero (ltb-true n 0 t))
 negative (negsuc n) swing t = refl
@@ -40,7 +40,6 @@ whole : (d : ℤ) (swing : ℕ) → lt_z d (pos 0) ≡ false → T (non_neg d) �
 whole (pos n) swing t = (tt, refl)
 whole (negsuc n) swing t = absurd (true≢false t)
 
--- the height in the code, and how the machine has it
 abbrev height : tie.Start → ℤ
 height s = s.args.microvolts +ℤ pos s.args.below
 
@@ -63,61 +62,31 @@ answer : (s : tie.Start) (r : ℕ) → r ≡ as_number (above (height s) s.args.
     → AnswersCode r (span s.args.below s.args.swing) s.args.microvolts
 answer s r = answers-nearest r s.args.below s.args.swing s.args.microvolts s.requires.1
 
-cast-height : tie.Need-overflow-cast-height
-cast-height c = rw (to_z-of_z c.ranges.microvolts) (sfits_widen tt c.ranges.microvolts)
+pub overflow_cast-height : goal.overflow_cast-height
+overflow_cast-height c = rw (to_z-of_z c.ranges.microvolts) (sfits_widen tt c.ranges.microvolts)
 
-cast-height-2 : tie.Need-overflow-cast-height-2
-cast-height-2 c = search rules
+pub overflow_add-height : goal.overflow_add-height
+overflow_add-height c = rw (added c) (fits (height c) (small c))
 
-add-height : tie.Need-overflow-add-height
-add-height c = rw (added c) (fits (height c) (small c))
+pub returns-then-height-lt0 : goal.returns-then-height-lt0
+returns-then-height-lt0 c = c.before in answer s 65554 (rw (negative (height s) s.args.swing (rw (added s, back s) at c.if-height-lt0.true)))
 
-returns : tie.Need-returns
-returns c = let s = c.before in answer s 65554 (rw (negative (height s) s.args.swing (rw (added s, back s) at c.if1.true)))
+pub overflow_cast-code : goal.overflow_cast-code
+overflow_cast-code c = c.before in rw (added s, back s) ((known c).0, record { fits = omega (arith, small s) })
 
-cast-code : tie.Need-overflow-cast-code
-cast-code c = let s = c.before in rw (added s, back s) ((known c).0, record { fits = omega (arith, small s) })
+pub overflow_mul-code : goal.overflow_mul-code
+overflow_mul-code c = c.before in rw (added s, back s) (omega (arith, small s))
 
-mul-code : tie.Need-overflow-mul-code
-mul-code c = let s = c.before in rw (added s, back s) (omega (arith, small s))
+pub overflow_add-code : goal.overflow_add-code
+overflow_add-code c = c.before in rw (added s, back s) (omega (arith, small s))
 
-add-code : tie.Need-overflow-add-code
-add-code c = let s = c.before in rw (added s, back s) (omega (arith, small s))
-
-mul-code-2 : tie.Need-overflow-mul-code-2
-mul-code-2 c = search rules
-
-div-code : tie.Need-nonzero-div-code
-div-code c = search rules
-
-cast-result : tie.Need-overflow-cast-result
-cast-result c = search rules
-
-returns-2 : tie.Need-returns-2
-returns-2 c =
-    let s = c.before.before in
+pub returns-then-code-le4095 : goal.returns-then-code-le4095
+returns-then-code-le4095 c =
     rw (added s, back s)
-    (answer s (nearest (nat_abs (height s)) s.args.swing)
-    (rw ((known c.before).1, le-leb (nearest (nat_abs (height s)) s.args.swing) 4095 (rw (added s, back s) at c.if2.true))))
+    (answer s (nearest (nat_abs (height s)) c.args.swing)
+    (rw ((known c.before).1, le-leb (nearest (nat_abs (height s)) c.args.swing) 4095 (rw (added s, back s) at c.if-code-le4095.true))))
 
-returns-3 : tie.Need-returns-3
-returns-3 c = let s = c.before.before in
-    answer s 65554 (rw ((known c.before).1, lt-leb (nearest (nat_abs (height s)) s.args.swing) 4095 (rw (added s, back s) at c.if2.false)))
-
-pub code_in_spec : {M : Type 1} → statement M
-code_in_spec =
-    let met =
-    tie.spec
-    cast-height
-    cast-height-2
-    add-height
-    returns
-    cast-code
-    mul-code
-    add-code
-    mul-code-2
-    div-code
-    cast-result
-    returns-2
-    returns-3
-    in tie.close met
+pub returns-else-code-le4095 : goal.returns-else-code-le4095
+returns-else-code-le4095 c =
+    c.before.before in
+    answer s 65554 (rw ((known c.before).1, lt-leb (nearest (nat_abs (height s)) s.args.swing) 4095 (rw (added s, back s) at c.if-code-le4095.false)))
