@@ -53,6 +53,7 @@ fn range_refusal(s: Settings) -> u8
 }
 
 // The number by which a start is refused, or 0.
+#[tactic(auto, unfolding(crate::specs::Settings::start_refusal))]
 pub fn start_refusal(s: Settings) -> u8
     ensures { result ≡ start_refusal s }
 {
