@@ -1,5 +1,6 @@
 // A line of a session, of which what is kept has a fixed size, whatever the line's length.
 #![tactic(auto)]
+
 pub mod bytes; // whatever the bytes are
 mod whole; // the usual bytes, where a line begins
 
