@@ -1,5 +1,4 @@
 -- `session_text::put_byte` meets its contract. Assumes nothing.
-use borrow.Author.Rules.{rules}
 use Rattle.session_text.proofs.Writing.{wrote_as}
 use Rattle.session_text.proofs.put_byte.Goals as goal
 

@@ -1,5 +1,4 @@
 -- `session_text::put_decimal` meets its contract. Assumes nothing.
-use borrow.Author.Rules.{rules}
 use Rattle.session_text.proofs.Writing.{wrote_as, spelled_part}
 use Rattle.session_text.proofs.put_decimal.Goals as goal
 

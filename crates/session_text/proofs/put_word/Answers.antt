@@ -1,5 +1,4 @@
 -- `session_text::put_word` meets its contract. Assumes nothing.
-use borrow.Author.Rules.{rules}
 use Rattle.session_text.proofs.Writing.{wrote_as}
 use Rattle.session_text.proofs.put_word.Goals as goal
 

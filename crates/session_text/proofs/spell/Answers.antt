@@ -2,17 +2,11 @@
 use mathlib.Core.Path.{refl}
 use lib.ListN.{replicate}
 use native.Mathlib.Omega.{arith}
-use borrow.Author.Rules.{rules}
-use Rattle.session_text.proofs.Writing.{Spelled, spelled_none, spelled_room, spelled_more, spelled_all}
-use Rattle.session_text.proofs.spell.Reads as reads
-use Rattle.session_text.proofs.spell.Lts as lts
+use Rattle.session_text.proofs.Writing.{spelled_none, spelled_room, spelled_more, spelled_all}
 use Rattle.session_text.proofs.spell.Goals as goal
 
 pub loop-left-init : goal.loop-left-init
 loop-left-init c = spelled_none c.args.n (replicate 20 48) (omega arith) refl
-
-pub overflow_mul-digits : goal.overflow_mul-digits
-overflow_mul-digits c = omega (arith, c.loop-left.invariant.fits)
 
 pub overflow_sub-from : goal.overflow_sub-from
 overflow_sub-from c = spelled_room c.loop-left.invariant c.loop-left-test.true
