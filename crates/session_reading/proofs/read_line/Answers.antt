@@ -1,5 +1,4 @@
 -- `session_reading::read_line` meets its contract. Assumes nothing.
-use borrow.Author.Rules.{rules}
 use Rattle.session_reading.proofs.Usual.{blank-found}
 use Rattle.session_reading.proofs.read_line.Goals as goal
 

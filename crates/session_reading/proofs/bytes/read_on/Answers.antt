@@ -1,26 +1,13 @@
 -- `session_reading::bytes::read_on` meets its contract: the bytes so far are read, and none is a newline. Assumes nothing.
-use Prim.Native.Nat.{◌-◌}
-use native.Mathlib.Omega.{arith}
-use lib.ListN.{length}
 use borrow.Author.Rules.{rules}
-use Rattle.session_reading.specs.Found.{Scanned}
 use Rattle.session_reading.proofs.Scanning.{scanned-none, scanned-more, found-newline, found-end}
 use Rattle.session_reading.proofs.bytes.read_on.Goals as goal
 
 pub loop-i-init : goal.loop-i-init
 loop-i-init c = scanned-none _ _ _ (search rules)
 
-pub bounds-piece-i : goal.bounds-piece-i
-bounds-piece-i c = omega arith
-
 pub returns-then-byte-eq10 : goal.returns-then-byte-eq10
 returns-then-byte-eq10 c = found-newline c.loop-i.invariant c.if-byte-eq10.true
-
-pub overflow_add-i : goal.overflow_add-i
-overflow_add-i c = omega arith
-
-pub loop-i-smaller : goal.loop-i-smaller
-loop-i-smaller c = omega arith
 
 pub loop-i-preserved : goal.loop-i-preserved
 loop-i-preserved c = scanned-more c.loop-i.invariant c.loop-i-test.true c.if-byte-eq10.false c.take-next.ensures

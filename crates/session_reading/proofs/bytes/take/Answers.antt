@@ -1,35 +1,6 @@
 -- `session_reading::bytes::take` meets its contract. Assumes nothing.
-use borrow.Author.Rules.{rules}
 use Rattle.session_reading.specs.Reading.{taken}
 use Rattle.session_reading.proofs.bytes.take.Goals as goal
-
-pub take_first-requires : goal.take_first-requires
-unfolding taken
-take_first-requires c = search rules
-
-pub take_letter-requires : goal.take_letter-requires
-unfolding taken
-take_letter-requires c = search rules
-
-pub take_begun-requires : goal.take_begun-requires
-unfolding taken
-take_begun-requires c = search rules
-
-pub take_zero-requires : goal.take_zero-requires
-unfolding taken
-take_zero-requires c = search rules
-
-pub take_digit-requires : goal.take_digit-requires
-unfolding taken
-take_digit-requires c = search rules
-
-pub take_first_hex-requires : goal.take_first_hex-requires
-unfolding taken
-take_first_hex-requires c = search rules
-
-pub take_second_hex-requires : goal.take_second_hex-requires
-unfolding taken
-take_second_hex-requires c = search rules
 
 pub returns-in-Blank : goal.returns-in-Blank
 unfolding taken

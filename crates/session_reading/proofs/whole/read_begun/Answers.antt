@@ -1,6 +1,5 @@
 -- `session_reading::whole::read_begun` meets its contract. Assumes nothing.
 use mathlib.Core.Path.{ap}
-use borrow.Author.Rules.{rules}
 use Rattle.session_reading.specs.declared.Reading.TheVariants.{Begun}
 use Rattle.session_reading.proofs.Scanning.{found_as}
 use Rattle.session_reading.proofs.Usual.{number-most, number-found}
@@ -15,4 +14,4 @@ returns-then-digit-lt10 c =
     c.digit_of-digit.ensures c.if-digit-lt10.true
 
 pub returns : goal.returns
-returns c = found_as (ap Begun c.before.number_of_lem.ensures) c.read_on.ensures
+returns c = found_as (ap Begun c.number_of.ensures) c.read_on.ensures

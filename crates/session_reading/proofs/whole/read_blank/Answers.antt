@@ -1,5 +1,4 @@
 -- `session_reading::whole::read_blank` meets its contract. Assumes nothing.
-use borrow.Author.Rules.{rules}
 use Rattle.session_reading.proofs.Usual.{letter_found}
 use Rattle.session_reading.proofs.whole.read_blank.Goals as goal
 

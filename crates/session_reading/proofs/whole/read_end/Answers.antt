@@ -1,7 +1,6 @@
 -- `session_reading::whole::read_end` meets its contract. Assumes nothing.
 use native.Mathlib.Omega.{arith}
 use lib.ListN.{get_or}
-use borrow.Author.Rules.{rules}
 use Rattle.session_reading.proofs.Scanning.{found_as}
 use Rattle.session_reading.proofs.Usual.{end-found, offset_small, offset_found}
 use Rattle.session_reading.proofs.whole.read_end.Goals as goal

@@ -2,7 +2,6 @@
 use Prim.Native.Nat.{◌+◌}
 use native.Mathlib.Omega.{arith}
 use lib.ListN.{get_or}
-use borrow.Author.Rules.{rules}
 use Rattle.session_reading.proofs.Usual.{hex_small, value_found}
 use Rattle.session_reading.proofs.whole.read_value.Goals as goal
 
