@@ -1,5 +1,6 @@
 // What a line asks for that was read byte after byte, and whether it has a byte.
 #![tactic(auto)]
+
 ghost use Rattle.std.specs.Prelude.{◌≡◌};
 ghost use Rattle.session_commands.specs.Command.{minus};
 ghost use Rattle.session_commands.specs.Ends.{number_read, command_read, is_begun};
