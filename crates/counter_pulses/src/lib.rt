@@ -1,6 +1,7 @@
 // Many CLK pulses at one counter of the 82C54 at once (manual, chapter 19: the data sheet), modes 0 and 2: how many move its count alone, the
 // counter after so many, and the pulses of its period in mode 2. As `counter_one::pulse_working` does, the mode is read from bit 2 of the control bits.
 #![tactic(auto)]
+
 ghost use Rattle.std.specs.Prelude.{◌≡◌};
 ghost use Rattle.counter_one.specs.Working.{WorkingCounter};
 ghost use Rattle.counter_pulses.specs.Pulses.{quiet_pulses, leapt_counter};

@@ -1,6 +1,7 @@
 // The 82C54's three counters with their gates and the cascade (manual, chapters 17 and 19). Each event is a function on the three by
 // value, total over any record, and its contract is a definition of specs/Timer.antt.
 #![tactic(auto)]
+
 pub mod accesses; // what the bus writes to and reads of the timer
 
 ghost use Rattle.std.specs.Prelude.{◌≡◌};
