@@ -1,6 +1,7 @@
 // What a transfer to or from EEPROM and TrimDAC has done when it ends (manual, chapter 15). The EEPROM, 128 bytes, is lent. Each
 // function's contract is a definition of specs/Ends.antt.
 #![tactic(auto)]
+
 ghost use Rattle.std.specs.Prelude.{◌≡◌, length, set, take, ◌%◌};
 ghost use Rattle.calibration_registers.specs.Working.{WorkingCalibration};
 ghost use Rattle.calibration_end.specs.Ends.{stopped, ended_by, eeprom_ended_by, calibration_ended, eeprom_ended};

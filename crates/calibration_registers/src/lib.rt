@@ -1,6 +1,7 @@
 // Calibration (manual, 8.4 and chapter 15; page 3 of the register map): the data and address registers, the key, the transfer that runs.
 // Each function's contract is a definition of specs/Registers.antt.
 #![tactic(auto)]
+
 ghost use Rattle.std.specs.Prelude.{◌≡◌};
 ghost use Rattle.calibration_registers.specs.Registers.{calbusy, several, locked, control_refusal, nothing_runs, eeprom_command, transfer_commanded};
 ghost use Rattle.calibration_registers.specs.Registers.{data_written, address_written, command_written, key_written, key_forgotten};

@@ -1,6 +1,7 @@
 // The transfers to and from EEPROM and TrimDAC (manual, 8.4 and chapter 15): which runs, and what is busy meanwhile. Each function's
 // contract is a definition of specs/Transfers.antt.
 #![tactic(auto)]
+
 ghost use Rattle.std.specs.Prelude.{◌≡◌};
 ghost use Rattle.calibration_transfers.specs.Transfers.{transfer_of, runs, eeprom_busy, trim_dac_busy};
 

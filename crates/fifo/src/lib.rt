@@ -1,6 +1,7 @@
 // The sample memory (manual 11.2 and Base + 7): a record by value, and 512 places that the caller lends, as a circle: place 0 follows place 511. Promises
 // speak of the samples held, oldest first (`queue`), and of the memory that holds them (`layout`). Which places those are is known in this crate alone.
 #![tactic(auto)]
+
 ghost use Rattle.std.specs.Prelude.{◌≡◌, [], ◌&&◌, ◌+◌, ◌*◌, ◌≤◌, eqb, ltb, length, take, drop};
 ghost use Rattle.fifo.specs.Samples.{oldest_of, low_byte_of, high_byte_of, pushed, popped};
 ghost use Rattle.fifo.specs.Flags.{EF, HF, FF, flag_bits};

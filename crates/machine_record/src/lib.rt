@@ -1,6 +1,7 @@
 // The board's record: fresh, working, and as it shows on the pins. What ticks, pins and resets make of it stands in crates above; none of
 // them sees the sample memory or the EEPROM. Each contract is a definition of specs/.
 #![tactic(auto)]
+
 ghost use Rattle.std.specs.Prelude.{◌≡◌};
 ghost use Rattle.base.specs.Tests.{all};
 ghost use Rattle.machine_record.specs.Fresh.{fresh_registers, fresh_board, jumpers_number};

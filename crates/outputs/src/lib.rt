@@ -1,6 +1,7 @@
 // The analogue outputs (manual, chapters 13 and 14; Base+4 and Base+5): four 12-bit codes, the load that an update brings to
 // one of them, and DACBUSY. Each function's contract is a definition of specs/Outputs.antt.
 #![tactic(auto)]
+
 ghost use Rattle.std.specs.Prelude.{◌≡◌, ◌-◌};
 ghost use Rattle.outputs.specs.Outputs.{reset_code, code_after, updated_codes, code_on, dacbusy, update_answer};
 ghost use Rattle.outputs.specs.Outputs.{lsb_written, msb_written, updated, dac_ticked, reset_a, reset_d, reset_to, codes_with, load_of, level};

@@ -1,6 +1,7 @@
 // The digital ports (manual, 8.2 and chapter 16; page 1 of the register map): an 82C55 in mode 0. Each function's contract is a
 // definition of specs/Ports.antt.
 #![tactic(auto)]
+
 ghost use Rattle.std.specs.Prelude.{◌≡◌};
 ghost use Rattle.ports.specs.Ports.{line_of, with_line, no_lines, high_input, low_input, joined, by_line, control_taken, port_control_refused};
 ghost use Rattle.ports.specs.Ports.{port_control_written, control_read, latch_written, port_read, pins_set, driven, levels, reset_ports, fresh_ports};

@@ -1,5 +1,6 @@
 // The settings of requests and the request flags (manual 11.1, 11.2, Base + 6, 7, 8, 9).
 #![tactic(auto)]
+
 ghost use Rattle.std.specs.Prelude.{◌≡◌};
 ghost use Rattle.requests.specs.Requests.{asked_ad, asked_latch, asked_timer, flags_cleared, asking};
 ghost use Rattle.requests.specs.Registers.{written_depth, written_fifoen, written_enables, FIFORST, mode_bits, request_bits, fresh_requests};
