@@ -1,5 +1,6 @@
 // What a line is answered by, written at a place of a lent slice.
 #![tactic(auto)]
+
 ghost use Rattle.std.specs.Prelude.{◌+◌, ◌≤◌, length};
 ghost use Rattle.session_text.specs.Text.{Wrote};
 ghost use Rattle.session_answers.specs.Answers.{byte_answer, word_answer, refusal_answer, answer_text, irq_text, event_text, bad_text};
