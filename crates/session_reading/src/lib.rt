@@ -50,6 +50,7 @@ pub struct Line {
 }
 
 // Whether no byte of the line is read.
+#[tactic(auto, unfolding(crate::specs::Whole::is_blank))]
 fn is_blank(reading: Reading) -> bool
     ensures { result ≡ is_blank reading }
 {
