@@ -31,6 +31,7 @@ fn put_refusal(n: u8, out: &mut [u8], at: usize) -> usize
     session_text::put_decimal(n as u64, out, next)
 }
 
+#[tactic(auto, unfolding(crate::specs::Answers::answer_text))]
 fn put_answer(answer: Answer, out: &mut [u8], at: usize) -> usize
     requires { at + 29 ≤ length out.old }
     ensures { Wrote (answer_text answer) out.old at out.new result }
