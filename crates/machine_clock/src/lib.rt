@@ -1,5 +1,6 @@
 // The gates of the counters, and what a timer that moves brings about: specs/Clock.antt.
 #![tactic(auto)]
+
 ghost use Rattle.std.specs.Prelude.{◌≡◌};
 ghost use Rattle.machine_clock.specs.Clock.{gates_at, gates, with_timer, timer_moved, timer_moved_by};
 

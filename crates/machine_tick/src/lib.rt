@@ -1,5 +1,6 @@
 // The counters and the dividers in a tick of the 10 MHz clock: specs/Tick.antt, specs/InPlace.antt.
 #![tactic(auto)]
+
 ghost use Rattle.std.specs.Prelude.{◌≡◌};
 ghost use Rattle.counter_one.specs.Working.{WorkingCounter};
 ghost use Rattle.machine_record.specs.Working.{WorkingClocks};
