@@ -147,6 +147,7 @@ in_table c a Drain r q (drained word i e) = rw (i, e)
 in_table c a Drain r q (closed word i e) = rw (i, e)
 in_table c a Drain r q (drain_nothing i) = rw (i, q)
 in_table c a Stuck r q stands = rw q
+in_table c a Unknown r q s = elim s [ ]
 
 -- The theorem: whatever a fit collector's phase and whatever comes of an access that the board serves, its next access is the one that the table gives.
 pub next-access : (c : Collector) (a : BusAnswer) → served a ≡ true → FitCollector c

@@ -19,15 +19,15 @@ din-moved_works : (b : Board) (n : ℕ) → n ≤ 15 → WorkingMachine b → Wo
 unfolding din_moved
 din-moved_works b n h w = same-working _ _ (gates-kept b (gates_at b.registers.counting n) w) w.requests h w.latch refl refl refl refl refl refl refl
 
-din0_works : (b : Board) (fallen : Bool) → WorkingMachine b → WorkingMachine (din0_clocked b fallen)
+din0_works : (b : Board) (fell : Bool) → WorkingMachine b → WorkingMachine (din0_clocked b fell)
 unfolding din0_clocked
-din0_works b fallen w = timer-moved_works b _ w (clocked-works _ Counter0 (gates b) _ w.clocks.timer)
+din0_works b fell w = timer-moved_works b _ w (clocked-works _ Counter0 (gates b) _ w.clocks.timer)
 
-din3_works : (b : Board) (fallen : Bool) → WorkingMachine b → WorkingMachine (din3_triggered b fallen)
+din3_works : (b : Board) (fell : Bool) → WorkingMachine b → WorkingMachine (din3_triggered b fell)
 unfolding din3_triggered
-din3_works b fallen w =
+din3_works b fell w =
     converter-kept b w _
-    (converter.triggered-works b.converter (external_trigger b.converter (on b.requests.clksel) fallen (triggers_stopped b)) w.converter)
+    (converter.triggered-works b.converter (external_trigger b.converter (on b.requests.clksel) fell (triggers_stopped b)) w.converter)
 
 pub din-works : (b : Board) (n : ℕ) → n ≤ 15 → WorkingMachine b → WorkingMachine (din_set b n)
 unfolding din_set

@@ -1,5 +1,6 @@
 // The DIN pins: specs/Pins.antt, where the Latch pin and the port pins are defined too.
 #![tactic(auto)]
+
 ghost use Rattle.std.specs.Prelude.{◌≡◌};
 ghost use Rattle.machine_pins.specs.Pins.{fell_from, din_moved, din0_clocked, triggers_stopped, din3_triggered, din_set};
 

@@ -116,7 +116,7 @@ read_hex offset b f fs = by (ltb (hex_of b) 16) refl f
     by true e (l ∷ []) = ap (λ (v : FieldNumber). last offset v fs) (both l (ltb (hex_of l) 16) e)
     by true e (l ∷ c ∷ f) = refl
     by false e [] = no_value offset fs
-    by false e (l ∷ []) = ap (λ (v : FieldNumber). last offset v fs) (rw e) ∙ no_value offset fs
+    by false e (l ∷ []) = ap (λ (v : FieldNumber). last offset v fs) {y = none} (rw e) ∙ no_value offset fs
     by false e (l ∷ c ∷ f) = no_value offset fs
 
 read-second : (offset high b : ℕ) (f : List ℕ) (fs : List (List ℕ)) → last offset (half high (b ∷ f)) fs ≡ meaning (second_hex_taken offset high b) f fs
