@@ -1,6 +1,7 @@
 // Output codes for C hosts, as plain numbers (manual, chapters 13 and 14.1 to 14.3): a number below 65536, or 65536 and the number of the refusal.
 // The output ranges are 0: ±5 V, 1: ±10 V, 2: 0-5 V, 3: 0-10 V. The channels are 0 to 3.
 #![tactic(auto)]
+
 ghost use Rattle.std.specs.Prelude.{◌≡◌, ◌≤◌, ◌<◌};
 ghost use Rattle.codes.specs.Output.{AnswersCode, bytes_of, as_number, span_of, span};
 

@@ -1,7 +1,6 @@
 -- How a step counts polls, and what it leaves of settings and polls; the laws of specs/History.antt are made of these.
-use Rattle.std.specs.Prelude.{ℕ, ◌+◌, ◌≤◌, ◌<◌, ◌≡◌, refl, Bool, true, false, ◌&&◌, eqb}
+use Rattle.std.specs.Prelude.{ℕ, ◌+◌, ◌≤◌, ◌<◌, ◌≡◌, refl, Bool, true, false, ◌&&◌, eqb, if◌then◌else◌}
 use Rattle.std.proofs.Common.{ap, arith}
-use Rattle.base.specs.Choice.{if◌then◌else◌}
 use Rattle.collector_phases.specs.declared.Collector.{Collector}
 use Rattle.samples.specs.declared.Sample.{Sample}
 use Rattle.collector_phases.specs.declared.Phase.{Phase}
@@ -103,6 +102,7 @@ step_counts c a Drain r n f h (drained word i e) = h refl
 step_counts c a Drain r n f h (closed word i e) = h refl
 step_counts c a Drain r n f h (drain_nothing i) = h refl
 step_counts c a Stuck r n f h stands = h refl
+step_counts c a Unknown r n f h _ = elim f [ ]
 
 -- no step changes the settings; and the record holds the polls reported, but after a gap, where it stands before its 9←0
 step-holds : (c : Collector) (a : BusAnswer) (p : Phase) (r : Taken) → Step c a p r
@@ -128,6 +128,7 @@ step-holds c a Drain r (drained word i e) = (refl, λ u. refl)
 step-holds c a Drain r (closed word i e) = (refl, λ u. absurd (let z : ◌≡◌ {A = ℕ} 0 1 = cc in omega arith))
 step-holds c a Drain r (drain_nothing i) = (refl, λ u. refl)
 step-holds c a Stuck r stands = (refl, λ u. refl)
+step-holds c a Unknown r s = elim s [ ]
 
 -- a step that marks a gap leads to the first record of a start
 gap-begins : (c : Collector) (a : BusAnswer) (p : Phase) (r : Taken) (y : Sample) → Step c a p r → r.handed ≡ LastSample y
@@ -152,6 +153,7 @@ gap-begins c a Drain r y (drained word i e) g = absurd (let z : ◌≡◌ {A = �
 gap-begins c a Drain r y (closed word i e) g = refl
 gap-begins c a Drain r y (drain_nothing i) g = absurd (let z : ◌≡◌ {A = ℕ} 0 1 = cc in omega arith)
 gap-begins c a Stuck r y stands g = absurd (let z : ◌≡◌ {A = ℕ} 0 1 = cc in omega arith)
+gap-begins c a Unknown r y s g = elim s [ ]
 
 -- a step reports at most as many polls as the limit allows
 step-within : (c : Collector) (a : BusAnswer) (p : Phase) (r : Taken) → FitIn p c → c.polls ≤ c.settings.limit → Step c a p r
@@ -176,6 +178,7 @@ step-within c a Drain r f w (drained word i e) = w
 step-within c a Drain r f w (closed word i e) = w
 step-within c a Drain r f w (drain_nothing i) = w
 step-within c a Stuck r f w stands = w
+step-within c a Unknown r f w _ = elim f [ ]
 
 -- ---- whatever came: a step, or the record stays
 module _ (c : Collector) (f : FitIn (phase_of c.phase) c) where

@@ -1,13 +1,12 @@
 -- A fit collector stays fit: a start makes a fit one, and every answer leaves one.
-use Rattle.std.specs.Prelude.{ℕ, ◌+◌, ◌-◌, ◌≤◌, ◌<◌, ◌≡◌, refl, Bool, true, false, eqb, leb}
+use Rattle.std.specs.Prelude.{ℕ, ◌+◌, ◌-◌, ◌≤◌, ◌<◌, ◌≡◌, refl, Bool, true, false, eqb, leb, if◌then◌else◌}
 use native.Mathlib.Omega.{arith}
 use borrow.Author.Tests.{eqb-true, eqb-false, leb-true, leb-false}
-use Rattle.base.specs.Choice.{if◌then◌else◌}
 use Rattle.base.specs.Laws.{by-test}
 use Rattle.collector_settings.specs.declared.Settings.{Settings}
 use Rattle.collector_phases.specs.declared.Collector.{Collector}
 use Rattle.collector_phases.specs.declared.Phase.{Phase}
-use Rattle.collector_phases.specs.declared.Phase.TheVariants.{Stop, Poll, Range, Clear, Low, High, Go, Look, Take, Drain, Stuck}
+use Rattle.collector_phases.specs.declared.Phase.TheVariants.{Stop, Poll, Range, Clear, Low, High, Go, Look, Take, Drain, Stuck, Unknown}
 use Rattle.collector_records.specs.declared.Started.TheVariants.{Begun, NotBegun}
 use Rattle.collector_answers.specs.declared.BusAnswer.{BusAnswer}
 use Rattle.collector_steps.specs.declared.Taken.{Taken}
@@ -105,6 +104,7 @@ module _ (c : Collector) (w : FitCollector c) where
       (let g : 1 < c.left = leb-false _ _ e in let h : c.left ≤ 512 = f.1 in (omega arith, omega arith))
   kept a Drain r f (closed word n e) = begun-fit c.settings w.settings
   kept a Stuck r f stands = w
+  kept a Unknown r f _ = elim f [ ]
 
   pub replied-fit : (a : BusAnswer) → FitCollector (replied c a).collector
   replied-fit a = by a (replied c a) (reply c a w)

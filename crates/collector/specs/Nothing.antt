@@ -1,15 +1,14 @@
 -- The collector told "nothing" (request M-100: "The collector can now be told "nothing" in a take or a drain .. If it is told so all the same, it keeps
 -- its record. .. Refusals: 20, nothing where a sample is due, after 17 in the collector's order").
-use Rattle.std.specs.Prelude.{ℕ, ◌≡◌, refl, Bool, true, false, not}
+use Rattle.std.specs.Prelude.{ℕ, ◌≡◌, refl, true, false}
 use Rattle.std.proofs.Common.{sym, ◌∙◌, ap}
 use Rattle.base.specs.Laws.{never}
 use Rattle.collector_phases.specs.declared.Collector.{Collector}
 use Rattle.collector_phases.specs.declared.Phase.{Phase}
 use Rattle.collector_phases.specs.declared.Phase.TheVariants.{Stop, Poll, Range, Clear, Low, High, Go, Look, Take, Drain, Stuck, Unknown}
-use Rattle.collector_phases.specs.Phases.{phase_of, access_in, is_byte_read, is_word_read, is_none}
+use Rattle.collector_phases.specs.Phases.{phase_of, access_in, is_byte_read, is_word_read}
 use Rattle.collector_phases.specs.Fit.{FitIn, FitCollector}
 use Rattle.collector_phases.specs.Accesses.{access_of}
-use Rattle.collector_answers.specs.declared.BusAnswer.{BusAnswer}
 use Rattle.collector_answers.specs.declared.BusAnswer.TheVariants as bus
 use Rattle.collector_steps.specs.declared.Handed.TheVariants.{Refused}
 use Rattle.collector_steps.specs.Reads.{reports}

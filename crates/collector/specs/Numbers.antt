@@ -1,8 +1,7 @@
 -- The collector's answers in the specification's numbers: of a start, of a question for the access and of an answer it is the number of the
 -- first check that holds, 0 where none does. And a start ends with its last write.
-use Rattle.std.specs.Prelude.{ℕ, ◌≡◌, refl, Bool, true, false, not, ◌&&◌, List, [], ◌∷◌, eqb, leb}
-use Rattle.std.proofs.Common.{sym, ◌∙◌, eqb-true}
-use Rattle.base.specs.Choice.{if◌then◌else◌}
+use Rattle.std.specs.Prelude.{ℕ, ◌≡◌, refl, Bool, true, false, not, ◌&&◌, List, [], ◌∷◌, eqb, leb, if◌then◌else◌}
+use Rattle.std.proofs.Common.{sym, eqb-true}
 use Rattle.base.specs.Checks.{Check, ◌refuses◌, refusal}
 use Rattle.base.specs.Laws.{by_choice}
 use Rattle.collector_settings.specs.declared.Settings.{Settings}
@@ -145,6 +144,7 @@ step-ends c a Drain r (drained word n e) = refl
 step-ends c a Drain r (closed word n e) = refl
 step-ends c a Drain r (drain_nothing n) = refl
 step-ends c a Stuck r stands = refl
+step-ends c a Unknown r s = elim s [ ]
 
 -- the board took it
 pub start-ends : (c : Collector) (a : BusAnswer) → start_ends (replied c a).handed ≡ (served a && is_go (access_of c))

@@ -2,6 +2,7 @@
 // memory and hands the samples over. Its record names one bus access; the host makes that access and brings the answer back. The functions
 // stand in the crates below by what they do; here are the theorems about them.
 #![tactic(auto)]
+
 pub use collector_answers::BusAnswer;
 pub use collector_phases::{Access, Collector, access_of, is_fit};
 pub use collector_records::{Started, start};

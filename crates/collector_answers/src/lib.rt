@@ -1,5 +1,6 @@
 // How what came of a bus access is read: specs/Answers.antt.
 #![tactic(auto)]
+
 ghost use Rattle.std.specs.Prelude.{◌≡◌};
 ghost use Rattle.collector_answers.specs.Answers.{wide, STS, EF, FF, sample_at};
 

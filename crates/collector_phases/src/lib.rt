@@ -1,6 +1,7 @@
 // The collector's record and its phases: the bus access that each names, and what each asks of the record. specs/Phases.antt, specs/Fit.antt and
 // specs/Accesses.antt.
 #![tactic(auto)]
+
 ghost use Rattle.std.specs.Prelude.{◌≡◌};
 ghost use Rattle.collector_phases.specs.Phases.{phase_of, access_in};
 ghost use Rattle.collector_phases.specs.Fit.{fit_in, fit};
@@ -48,6 +49,7 @@ pub enum Access {
 }
 
 // The phase that a number of the record stands for.
+#[tactic(auto, unfolding(crate::specs::Phases::phase_of))]
 pub fn phase_of(n: u8) -> Phase
     ensures { result ≡ phase_of n }
 {
@@ -126,6 +128,7 @@ pub fn fits(p: Phase, c: Collector) -> bool
 }
 
 // Whether the record is fit.
+#[tactic(auto, unfolding(crate::specs::Fit::fit))]
 pub fn is_fit(c: Collector) -> bool
     ensures { result ≡ fit c }
 {
@@ -138,6 +141,7 @@ pub fn is_fit(c: Collector) -> bool
 }
 
 // The access that the collector makes now, or the refusal 1 or 15.
+#[tactic(auto, unfolding(crate::specs::Accesses::access_of))]
 pub fn access_of(c: Collector) -> Access
     ensures { result ≡ access_of c }
 {

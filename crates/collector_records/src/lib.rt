@@ -1,6 +1,7 @@
 // The collector's record as a start makes it and as an answer changes it: specs/Records.antt. The bounds that some functions require hold of every
 // fit record.
 #![tactic(auto)]
+
 ghost use Rattle.std.specs.Prelude.{◌≡◌, ◌<◌};
 ghost use Rattle.collector_records.specs.Records.{first_record, start_of, entered, poll_counted, draining, following, passed};
 
@@ -28,6 +29,7 @@ pub fn begin(s: Settings) -> Collector
 }
 
 // A collector for these settings, or the refusal 14, 11, 12 or 13.
+#[tactic(auto, unfolding(crate::specs::Records::start_of))]
 pub fn start(settings: Settings) -> Started
     ensures { result ≡ start_of settings }
 {

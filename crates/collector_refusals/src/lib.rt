@@ -1,5 +1,6 @@
 // Which answers are refused: specs/Refusals.antt.
 #![tactic(auto)]
+
 ghost use Rattle.std.specs.Prelude.{◌≡◌, [], ◌∷◌};
 ghost use Rattle.base.specs.Checks.{◌refuses◌, refusal};
 ghost use Rattle.collector_phases.specs.declared.Access.TheVariants.{ReadByte};

@@ -1,5 +1,6 @@
 // What an answer leads to: specs/Reply.antt. The bounds that some functions require hold of every fit record.
 #![tactic(auto)]
+
 ghost use Rattle.std.specs.Prelude.{◌≡◌, ◌<◌, true};
 ghost use Rattle.collector_phases.specs.Fit.{fit};
 ghost use Rattle.collector_replies.specs.Reply.{after_write, after_number, answered, staying, replied_in, replied};
@@ -74,6 +75,7 @@ fn stay(n: u8, x: Access, c: Collector) -> Collector
 }
 
 // The answer to a fit record.
+#[tactic(auto, using(crate::specs::Joined::room))]
 fn reply(p: Phase, c: Collector, a: BusAnswer) -> Taken
     requires { fit c ≡ true }
     ensures { result ≡ replied_in p c a }
@@ -89,6 +91,7 @@ fn reply(p: Phase, c: Collector, a: BusAnswer) -> Taken
 }
 
 // Takes what came of the access that the record names.
+#[tactic(auto, unfolding(crate::specs::Reply::replied))]
 pub fn take_answer(c: Collector, answer: BusAnswer) -> Taken
     ensures { result ≡ replied c answer }
 {

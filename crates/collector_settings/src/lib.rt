@@ -1,5 +1,6 @@
 // What a start of the collector is given, and what of it is refused: specs/Settings.antt.
 #![tactic(auto)]
+
 ghost use Rattle.std.specs.Prelude.{◌≡◌};
 ghost use Rattle.base.specs.Checks.{refusal};
 ghost use Rattle.collector_settings.specs.Settings.{lacking, limit_refused, range_checks, start_refusal, clock_byte};
@@ -52,6 +53,7 @@ fn range_refusal(s: Settings) -> u8
 }
 
 // The number by which a start is refused, or 0.
+#[tactic(auto, unfolding(crate::specs::Settings::start_refusal))]
 pub fn start_refusal(s: Settings) -> u8
     ensures { result ≡ start_refusal s }
 {

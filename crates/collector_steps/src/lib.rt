@@ -1,5 +1,6 @@
 // What the answer to a read leads to: specs/Reads.antt. The bounds that some functions require hold of every fit record.
 #![tactic(auto)]
+
 ghost use Rattle.std.specs.Prelude.{◌≡◌, ◌<◌};
 ghost use Rattle.collector_steps.specs.Reads.{reports, polled, looked, took, drained};
 

@@ -1,5 +1,6 @@
 // What a host has to act on: specs/Due.antt.
 #![tactic(auto)]
+
 ghost use Rattle.std.specs.Prelude.{◌≡◌, ◌≤◌};
 ghost use Rattle.requests.specs.Requests.{asking};
 ghost use Rattle.machine_due.specs.Due.{signs, outputs_differ, port_differs, ports_differ, channel_in_progress, transfer_that_runs, due_of};

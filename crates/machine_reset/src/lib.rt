@@ -1,5 +1,6 @@
 // Resets by Base+8: specs/Reset.antt, where INTRST and the page are defined too.
 #![tactic(auto)]
+
 ghost use Rattle.std.specs.Prelude.{◌≡◌};
 ghost use Rattle.machine_reset.specs.Reset.{outputs_reset, board_reset, is_reset};
 

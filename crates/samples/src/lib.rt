@@ -1,6 +1,7 @@
 // Samples of the A/D converter: the record of one, the channels and range codes that none can come from (specs/Refused.antt), and whole scans of
 // them (specs/Scans.antt).
 #![tactic(auto)]
+
 ghost use Rattle.std.specs.Prelude.{◌≡◌};
 ghost use Rattle.samples.specs.Refused.{bad_range, code_refused};
 ghost use Rattle.samples.specs.Scans.{WholePart};

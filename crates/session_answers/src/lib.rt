@@ -1,5 +1,6 @@
 // What a line is answered by, written at a place of a lent slice.
 #![tactic(auto)]
+
 ghost use Rattle.std.specs.Prelude.{◌+◌, ◌≤◌, length};
 ghost use Rattle.session_text.specs.Text.{Wrote};
 ghost use Rattle.session_answers.specs.Answers.{byte_answer, word_answer, refusal_answer, answer_text, irq_text, event_text, bad_text};
@@ -30,6 +31,7 @@ fn put_refusal(n: u8, out: &mut [u8], at: usize) -> usize
     session_text::put_decimal(n as u64, out, next)
 }
 
+#[tactic(auto, unfolding(crate::specs::Answers::answer_text))]
 fn put_answer(answer: Answer, out: &mut [u8], at: usize) -> usize
     requires { at + 29 ≤ length out.old }
     ensures { Wrote (answer_text answer) out.old at out.new result }

@@ -1,9 +1,8 @@
 -- A line read byte after byte asks for what its fields ask for, whatever its length and its bytes.
-use Rattle.std.specs.Prelude.{◌≡◌, refl, Bool, true, false, ◌&&◌, List, [], ◌∷◌, ℕ, ◌+◌, ◌*◌, ◌%◌, ◌<◌, eqb, leb, ltb}
+use Rattle.std.specs.Prelude.{◌≡◌, refl, Bool, true, false, ◌&&◌, List, [], ◌∷◌, ℕ, ◌+◌, ◌*◌, ◌%◌, ◌<◌, eqb, leb, ltb, if◌then◌else◌}
 use Rattle.std.proofs.Common.{ap, sym, ◌∙◌, mod-eq_of_lt, arith, eqb-true, leb-false, ltb-true}
 use Rattle.std.proofs.lemmas.Bool.{lt-leb}
 use Rattle.base.specs.Fields.{lowest}
-use Rattle.base.specs.Choice.{if◌then◌else◌}
 use Rattle.session_digits.specs.Digits.{digit_of, hex_of}
 use Rattle.session_commands.specs.Command.{FieldNumber, first, others, digits, alone, decimal, up_to, value, command_of}
 use Rattle.session_commands.specs.Command.FieldNumber.{none, some}
@@ -116,7 +115,7 @@ read_hex offset b f fs = by (ltb (hex_of b) 16) refl f
     by true e (l ∷ []) = ap (λ (v : FieldNumber). last offset v fs) (both l (ltb (hex_of l) 16) e)
     by true e (l ∷ c ∷ f) = refl
     by false e [] = no_value offset fs
-    by false e (l ∷ []) = ap (λ (v : FieldNumber). last offset v fs) (rw e) ∙ no_value offset fs
+    by false e (l ∷ []) = ap (λ (v : FieldNumber). last offset v fs) {y = none} (rw e) ∙ no_value offset fs
     by false e (l ∷ c ∷ f) = no_value offset fs
 
 read-second : (offset high b : ℕ) (f : List ℕ) (fs : List (List ℕ)) → last offset (half high (b ∷ f)) fs ≡ meaning (second_hex_taken offset high b) f fs

@@ -1,5 +1,6 @@
 // What a line asks for that was read byte after byte, and whether it has a byte.
 #![tactic(auto)]
+
 ghost use Rattle.std.specs.Prelude.{◌≡◌};
 ghost use Rattle.session_commands.specs.Command.{minus};
 ghost use Rattle.session_commands.specs.Ends.{number_read, command_read, is_begun};
@@ -55,6 +56,7 @@ fn command_of(number: Number, n: u16) -> Command
 }
 
 // What a line asks for that ends here.
+#[tactic(auto, unfolding(crate::specs::Ends::command_read))]
 pub fn command_at(reading: Reading) -> Command
     ensures { result ≡ command_read reading }
 {
@@ -73,6 +75,7 @@ pub fn command_at(reading: Reading) -> Command
 }
 
 // Whether the line has a byte.
+#[tactic(auto, unfolding(crate::specs::Ends::is_begun))]
 pub fn is_begun(reading: Reading) -> bool
     ensures { result ≡ is_begun reading }
 {

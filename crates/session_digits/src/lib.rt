@@ -1,5 +1,6 @@
 // Digits of a session's text: the value of a digit, and the digit of a value.
 #![tactic(auto)]
+
 ghost use Rattle.std.specs.Prelude.{◌≡◌};
 ghost use Rattle.session_digits.specs.Digits.{digit_of, hex_of, hex_digit};
 

@@ -134,6 +134,7 @@ fn take_second_hex(offset: u8, high: u8, byte: u8) -> Reading
 }
 
 // The next byte of the line.
+#[tactic(auto, unfolding(crate::specs::Reading::taken))]
 pub fn take(reading: Reading, byte: u8) -> Reading
     ensures { result ≡ taken reading byte }
 {

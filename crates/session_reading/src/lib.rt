@@ -1,5 +1,6 @@
 // A line of a session, of which what is kept has a fixed size, whatever the line's length.
 #![tactic(auto)]
+
 pub mod bytes; // whatever the bytes are
 mod whole; // the usual bytes, where a line begins
 
@@ -49,6 +50,7 @@ pub struct Line {
 }
 
 // Whether no byte of the line is read.
+#[tactic(auto, unfolding(crate::specs::Whole::is_blank))]
 fn is_blank(reading: Reading) -> bool
     ensures { result ≡ is_blank reading }
 {

@@ -33,6 +33,7 @@ fn read_value(offset: u8, piece: &[u8], from: usize) -> Line
 }
 
 // The number that follows W, R or C.
+#[tactic(auto, unfolding(crate::specs::Whole::number_after))]
 fn number_of(letter: u8) -> Number
     ensures { result ≡ number_after letter }
 {
@@ -46,6 +47,7 @@ fn number_of(letter: u8) -> Number
 }
 
 // What a line is whose number so far is n.
+#[tactic(auto, unfolding(crate::specs::Whole::so_far))]
 fn reading_of(letter: u8, n: u16) -> Reading
     ensures { result ≡ so_far (number_after letter) n }
 {

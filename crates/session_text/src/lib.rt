@@ -1,5 +1,6 @@
 // Text written into a lent slice: each function gets the place to write at and answers the place after it.
 #![tactic(auto)]
+
 ghost use Rattle.std.specs.Prelude.{◌+◌, ◌≤◌, length};
 ghost use Rattle.session_text.specs.Text.{byte_text, word_text, decimal_text, Spells, Wrote};
 

@@ -2,7 +2,7 @@
 use Rattle.std.specs.Prelude.{◌≡◌, Bool, true, false, ℕ, suc, ◌+◌, ◌-◌, ◌*◌, ◌^◌, ◌≤◌, ◌<◌, ℤ, pos, negsuc, nat_abs, Float}
 use Rattle.std.proofs.Common.{◌∙◌, zero-le, mul-pos, mul_assoc, lt_of_lt_of_le, arith, pow-add, pow_mono, pow_pos, shl_lt}
 use Rattle.std.proofs.Math.Nat.{mul-mul-mul_comm}
-use Rattle.std.specs.Float.{fin, Format, binary64}
+use Rattle.std.specs.Float.{fin, inf, nan, Format, binary64}
 use Rattle.std.specs.Float.Ieee.{unlike, up, down, round, mul, of_int}
 use Rattle.std.specs.Float.Ieee.Exact.{HasValue, round_exact}
 use Rattle.std.specs.Float.Ieee.Fits.{down_pos}
@@ -13,6 +13,10 @@ use Rattle.volts.specs.Volts.{negative}
 pub mul_round : (f : Format) (s t : Bool) (a c b d : ℕ) → 0 < c → 0 < d → (x y : Float) → HasValue x s a c → HasValue y t b d
     → mul f x y ≡ round f (unlike s t) (a * b) (c * d)
 unfolding mul
+mul_round f s t a c b d C D nan y v w = elim v [ ]
+mul_round f s t a c b d C D (inf _) y v w = elim v [ ]
+mul_round f s t a c b d C D (fin s' m e) nan v w = elim w [ ]
+mul_round f s t a c b d C D (fin s' m e) (inf _) v w = elim w [ ]
 mul_round f s t a c b d C D (fin s' m e) (fin t' n g) v w =
     rw (v.0, w.0)
     (round_same f (unlike s t) (m * up e * (n * up g)) (down e * down g) (a * b) (c * d) (mul-pos (down_pos e) (down_pos g)) (mul-pos C D)

@@ -1,5 +1,6 @@
 // An A/D code as volts (manual, chapter 9). The C forms are in host.rt.
 #![tactic(auto)]
+
 ghost use Rattle.std.specs.Prelude.{◌≡◌};
 ghost use Rattle.volts.specs.Table.{row_of};
 ghost use Rattle.volts.specs.Volts.{AnswersVolts, input_voltage_of, scale_of};

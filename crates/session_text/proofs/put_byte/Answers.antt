@@ -1,0 +1,9 @@
+-- `session_text::put_byte` meets its contract. Assumes nothing.
+use Rattle.session_text.proofs.Writing.{wrote_as}
+use Rattle.session_text.proofs.put_byte.Goals as goal
+
+pub returns : goal.returns
+returns c =
+    wrote_as
+    (simp (c.hex_digit-2.ensures, c.hex_digit.ensures))
+    c.copy.ensures
