@@ -1,6 +1,7 @@
 // The register map (manual, chapters 6 to 8): what an offset names on the current page. What an access there is refused by, shows and does is defined in
 // specs/Registers.antt, a row for each place; the functions that do it are the board's.
 #![tactic(auto)]
+
 pub mod bytes; // the bytes that are read of several parts
 pub mod map; // what an offset names
 

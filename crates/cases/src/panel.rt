@@ -3,9 +3,9 @@ ghost use Rattle.std.specs.Prelude.{◌≡◌};
 ghost use Rattle.machine_record.specs.Fresh.{jumpers_of};
 ghost use Rattle.cases.specs.Panel.{port_of};
 
-use libc::STDOUT_FILENO;
 use machine::Jumpers;
 use ports::Port;
+use std::io;
 
 // The jumpers of a number: 0 to 3 are A to D.
 pub fn jumpers_of(n: u32) -> Jumpers
@@ -30,21 +30,21 @@ pub fn port_of(n: u32) -> Port
     }
 }
 
-pub fn text(bytes: &[u8]) {
-    io::write_all(STDOUT_FILENO, bytes);
+pub fn text(rt: &impl Print, bytes: &[u8]) -> io::Result<()> {
+    rt.write_all(bytes)
 }
 
-pub fn decimal(n: u64) {
-    io::print_decimal(STDOUT_FILENO, n);
+pub fn decimal(rt: &impl Print, n: u64) -> io::Result<()> {
+    rt.print(n)
 }
 
 // A signed code.
-pub fn code(code: i16) {
+pub fn code(rt: &impl Print, code: i16) -> io::Result<()> {
     let s = converter::codes::sample(code) as u64;
     if code < 0 {
-        text(b"-");
-        decimal(65536 - s);
+        text(rt, b"-")?;
+        decimal(rt, 65536 - s)
     } else {
-        decimal(s);
+        decimal(rt, s)
     }
 }

@@ -104,6 +104,7 @@ fn operate(s: Script, byte: u8) -> Step
 }
 
 // The next byte of the text.
+#[tactic(auto, unfolding(crate::specs::Script::stepped))]
 pub fn take_byte(s: Script, byte: u8) -> Step
     ensures { result ≡ stepped s byte }
 {

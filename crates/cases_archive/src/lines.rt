@@ -1,5 +1,6 @@
 // A line of a world, byte by byte: "Nx " in front or not, a word, then numbers. A line that begins with '#' is a comment, or the name of a
 // script, which is shown as it stands.
+use std::io;
 
 // What of a line has been read: how often it is to happen (0: not said), the word's first letter (0: none yet), the numbers of its fields
 // (field 0 is the word), the field that is being read, whether a minus stood in the line, how many bytes of a comment are those of a name
@@ -34,30 +35,30 @@ fn longer(number: u32, digit: u8) -> u32 {
     number % 100000000 * 10 + (digit % 16) as u32
 }
 
-fn show_byte(byte: u8) {
+fn show_byte(rt: &impl Print, byte: u8) -> io::Result<()> {
     let text = [byte; 1];
-    cases::text(&text);
+    cases::text(rt, &text)
 }
 
 // A byte of a comment.
-fn comment(line: WorldLine, byte: u8) -> WorldLine {
+fn comment(rt: &impl Print, line: WorldLine, byte: u8) -> io::Result<WorldLine> {
     let named = line.named;
     let mut next = line;
     next.letter = b'#';
     if named == 8 {
-        show_byte(byte);
+        show_byte(rt, byte)?;
     }
     if named < 8 {
         if byte == NAME[named] {
             next.named = named + 1;
             if named == 7 {
-                cases::text(&NAME);
+                cases::text(rt, &NAME)?;
             }
         } else {
             next.named = 9;
         }
     }
-    next
+    Ok(next)
 }
 
 // A digit: of the number in front, or of the field that is being read.
@@ -107,16 +108,16 @@ fn plain(line: WorldLine, byte: u8) -> WorldLine {
 }
 
 // The next byte. A line feed ends the line.
-pub fn take_byte(line: WorldLine, byte: u8) -> WorldLine {
+pub fn take_byte(rt: &impl Print, line: WorldLine, byte: u8) -> io::Result<WorldLine> {
     let fresh = (line.letter == 0) & (line.times == 0);
     let mut next = line;
     if (line.letter == b'#') | fresh & (byte == b'#') {
-        next = comment(line, byte);
+        next = comment(rt, line, byte)?;
     } else if byte != b'\n' {
         next = plain(line, byte);
     }
     next.ended = byte == b'\n';
-    next
+    Ok(next)
 }
 
 // What is read next: more of a line that has not ended, or another line.

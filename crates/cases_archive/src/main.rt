@@ -1,6 +1,7 @@
 // Runs the worlds of standard input over the compiled board and collector together: the line language is that of the comment at the head of
 // tests/archive/worlds.txt. A line is read in lines.rt and taken apart into deeds in deeds.rt; the collector's side is in tallies.rt.
 #![tactic(auto)]
+
 mod deeds;
 mod lines;
 mod tallies;
@@ -8,6 +9,8 @@ mod tallies;
 use board::{Board, Event, Jumpers};
 use deeds::Deed;
 use lines::WorldLine;
+use std::io;
+use std::io::Read;
 use tallies::{Driver, Tally};
 
 // A board and the collector's side of it.
@@ -40,117 +43,143 @@ fn renew(
 
 // An event of the board. A refusal is counted, or the answer shown where it is viewed.
 fn happen(
+    rt: &impl Print,
     b: ArchiveBench,
     memory: &mut [u16],
     eeprom: &mut [u8],
     event: Event,
     viewed: u8,
-) -> ArchiveBench {
+) -> io::Result<ArchiveBench> {
     let before = b.tally;
     let outcome = board::step(b.board, memory, eeprom, event);
     let answer = outcome.answer;
     let board = outcome.board;
-    let tally = tallies::take_answer(before, answer, viewed);
-    ArchiveBench { board, tally }
+    let tally = tallies::take_answer(rt, before, answer, viewed)?;
+    Ok(ArchiveBench { board, tally })
 }
 
 // A turn of the collector on the board, where there is a collector.
-fn drive(b: ArchiveBench, memory: &mut [u16], eeprom: &mut [u8]) -> ArchiveBench {
+fn drive(
+    rt: &impl Print,
+    b: ArchiveBench,
+    memory: &mut [u16],
+    eeprom: &mut [u8],
+) -> io::Result<ArchiveBench> {
     let before = b.tally;
     let driver = before.driver;
     let Driver::Driving(c) = driver else {
-        return b;
+        return Ok(b);
     };
     let turned = archive_turns::turn(c, b.board, memory, eeprom);
     let handed = turned.handed;
     let after = turned.collector;
     let board = turned.board;
-    let tally = tallies::take_turn(before, after, handed, turned.polls);
-    ArchiveBench { board, tally }
+    let tally = tallies::take_turn(rt, before, after, handed, turned.polls)?;
+    Ok(ArchiveBench { board, tally })
 }
 
 // What concerns the collector alone.
-fn host(b: ArchiveBench, deed: Deed) -> ArchiveBench {
+fn host(rt: &impl Print, b: ArchiveBench, deed: Deed) -> io::Result<ArchiveBench> {
     let board = b.board;
     let before = b.tally;
-    let tally = tallies::host(before, deed);
-    ArchiveBench { board, tally }
+    let tally = tallies::host(rt, before, deed)?;
+    Ok(ArchiveBench { board, tally })
 }
 
-fn do_deed(b: ArchiveBench, memory: &mut [u16], eeprom: &mut [u8], deed: Deed) -> ArchiveBench {
+fn do_deed(
+    rt: &impl Print,
+    b: ArchiveBench,
+    memory: &mut [u16],
+    eeprom: &mut [u8],
+    deed: Deed,
+) -> io::Result<ArchiveBench> {
     match deed {
-        Deed::Happen(event, viewed) => happen(b, memory, eeprom, event, viewed),
-        Deed::Turn => drive(b, memory, eeprom),
-        Deed::Renew(jumpers, zero_scale) => renew(memory, eeprom, jumpers, zero_scale),
-        _ => host(b, deed),
+        Deed::Happen(event, viewed) => happen(rt, b, memory, eeprom, event, viewed),
+        Deed::Turn => drive(rt, b, memory, eeprom),
+        Deed::Renew(jumpers, zero_scale) => Ok(renew(memory, eeprom, jumpers, zero_scale)),
+        _ => host(rt, b, deed),
     }
 }
 
 // One round of a line.
 fn do_round(
+    rt: &impl Print,
     line: WorldLine,
     round: u32,
     b: ArchiveBench,
     memory: &mut [u16],
     eeprom: &mut [u8],
-) -> ArchiveBench {
+) -> io::Result<ArchiveBench> {
     let mut b = b;
     for place in 0..deeds::places(line) {
-        let next = do_deed(b, memory, eeprom, deeds::deed_at(line, round, place));
+        let next = do_deed(rt, b, memory, eeprom, deeds::deed_at(line, round, place))?;
         b = next;
     }
-    b
+    Ok(b)
 }
 
 // All rounds of a line; a line that has not ended has none.
 fn do_line(
+    rt: &impl Print,
     line: WorldLine,
     b: ArchiveBench,
     memory: &mut [u16],
     eeprom: &mut [u8],
-) -> ArchiveBench {
+) -> io::Result<ArchiveBench> {
     let mut b = b;
     for round in 0..lines::rounds(line) {
-        let next = do_round(line, round, b, memory, eeprom);
+        let next = do_round(rt, line, round, b, memory, eeprom)?;
         b = next;
     }
-    b
+    Ok(b)
 }
 
-fn feed_all(piece: &[u8], fed: ArchiveFeed, memory: &mut [u16], eeprom: &mut [u8]) -> ArchiveFeed {
+fn feed_all(
+    rt: &impl Print,
+    piece: &[u8],
+    fed: ArchiveFeed,
+    memory: &mut [u16],
+    eeprom: &mut [u8],
+) -> io::Result<ArchiveFeed> {
     let mut line = fed.line;
     let mut bench = fed.bench;
     for i in 0..piece.len() {
-        let read = lines::take_byte(line, piece[i]);
-        let next = do_line(read, bench, memory, eeprom);
+        let read = lines::take_byte(rt, line, piece[i])?;
+        let next = do_line(rt, read, bench, memory, eeprom)?;
         bench = next;
         line = lines::go_on(read);
     }
-    ArchiveFeed { line, bench }
+    Ok(ArchiveFeed { line, bench })
 }
 
 // A proved loop has to end, and nothing says that the input does: no input has as many pieces as there are reads.
-fn run_all(buf: &mut [u8], memory: &mut [u16], eeprom: &mut [u8]) {
+fn run_all(
+    rt: &(impl Input + Print),
+    buf: &mut [u8],
+    memory: &mut [u16],
+    eeprom: &mut [u8],
+) -> io::Result<()> {
+    let mut input = rt.reader();
     let mut fed = ArchiveFeed {
         line: lines::begin(),
         bench: renew(memory, eeprom, Jumpers::A, false),
     };
     let mut reads = u64::MAX;
     while reads > 0 {
-        let got = libc::read(0, buf);
-        if got <= 0 {
-            return;
+        let n = input.read(buf)?;
+        if n == 0 {
+            return Ok(());
         }
-        let n = io::count(got, buf);
-        let next = feed_all(&buf[..n], fed, memory, eeprom);
+        let next = feed_all(rt, &buf[..n], fed, memory, eeprom)?;
         fed = next;
         reads -= 1;
     }
+    Ok(())
 }
 
-fn main() {
+fn main(rt: HostRuntime) -> io::Result<()> {
     let mut buf = [0u8; 4096];
     let mut memory = [0u16; 512];
     let mut eeprom = [0u8; 128];
-    run_all(&mut buf, &mut memory, &mut eeprom);
+    run_all(&rt, &mut buf, &mut memory, &mut eeprom)
 }

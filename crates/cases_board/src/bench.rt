@@ -2,7 +2,7 @@
 // began with.
 use board::{Answer, Board, Event};
 use cases_board_host::view;
-use libc::STDOUT_FILENO;
+use std::io;
 use tally::Tally;
 
 #[derive(Clone, Copy)]
@@ -46,61 +46,65 @@ pub fn begin_tally(b: BoardBench) -> BoardBench {
     c
 }
 
-fn show_count(name: &[u8], n: u64) {
-    io::write_all(STDOUT_FILENO, name);
-    io::print_decimal(STDOUT_FILENO, n);
+fn show_count(rt: &impl Print, name: &[u8], n: u64) -> io::Result<()> {
+    rt.write_all(name)?;
+    rt.print(n)
 }
 
 // The tally, and whether it adds up.
-pub fn show_tally(b: BoardBench) {
+pub fn show_tally(rt: &impl Print, b: BoardBench) -> io::Result<()> {
     let t = b.tally;
-    show_count(b" begun ", t.begun);
-    show_count(b", ended ", t.ended);
-    show_count(b", abandoned ", t.abandoned);
-    show_count(b", read ", t.read);
-    show_count(b", lost ", t.lost);
-    show_count(b", cleared ", t.cleared);
+    show_count(rt, b" begun ", t.begun)?;
+    show_count(rt, b", ended ", t.ended)?;
+    show_count(rt, b", abandoned ", t.abandoned)?;
+    show_count(rt, b", read ", t.read)?;
+    show_count(rt, b", lost ", t.lost)?;
+    show_count(rt, b", cleared ", t.cleared)?;
     if tally::sums::adds_up(t, b.first, b.board) {
-        io::write_all(STDOUT_FILENO, b": adds up");
+        rt.write_all(b": adds up")
     } else {
-        io::write_all(STDOUT_FILENO, b": does not add up");
+        rt.write_all(b": does not add up")
     }
 }
 
-fn show_refusal(n: u8) {
-    io::write_all(STDOUT_FILENO, b" !");
-    io::print_decimal(STDOUT_FILENO, n as u64);
+fn show_refusal(rt: &impl Print, n: u8) -> io::Result<()> {
+    rt.write_all(b" !")?;
+    rt.print(n as u64)
 }
 
-fn show(answer: Answer) {
+fn show(rt: &impl Print, answer: Answer) -> io::Result<()> {
     match answer {
-        Answer::Done => {}
-        Answer::Byte(v) => view::show_byte(v),
-        Answer::Word(v) => view::show_word(v),
-        Answer::Nothing => {
-            io::write_all(STDOUT_FILENO, b" empty");
-        }
-        Answer::Refused(n) => show_refusal(n),
+        Answer::Done => Ok(()),
+        Answer::Byte(v) => view::show_byte(rt, v),
+        Answer::Word(v) => view::show_word(rt, v),
+        Answer::Nothing => rt.write_all(b" empty"),
+        Answer::Refused(n) => show_refusal(rt, n),
     }
 }
 
 // One event, with the parts of the stores that are lent: it is noted before it happens, and its answer is shown.
-pub fn happen(b: BoardBench, memory: &mut [u16], eeprom: &mut [u8], event: Event) -> BoardBench {
+pub fn happen(
+    rt: &impl Print,
+    b: BoardBench,
+    memory: &mut [u16],
+    eeprom: &mut [u8],
+    event: Event,
+) -> io::Result<BoardBench> {
     let places = b.places;
     let bytes = b.bytes;
     if places > memory.len() {
-        return b;
+        return Ok(b);
     }
     if bytes > eeprom.len() {
-        return b;
+        return Ok(b);
     }
     let noted = tally::note(b.tally, b.board, &memory[..places], &eeprom[..bytes], event);
     let outcome = board::step(b.board, &mut memory[..places], &mut eeprom[..bytes], event);
     let answer = outcome.answer;
-    show(answer);
+    show(rt, answer)?;
     let after = outcome.board;
     let mut c = b;
     c.board = after;
     c.tally = noted;
-    c
+    Ok(c)
 }

@@ -8,6 +8,7 @@ use super::bench;
 use super::bench::BoardBench;
 use board::{Din, Event};
 use cases_board_host::{spoil, view};
+use std::io;
 
 // What an operation asks for: one event, so many ticks, so many conversions, or a thing that the host does.
 #[derive(Clone, Copy)]
@@ -52,34 +53,51 @@ fn act_of(letter: u8, value: u32) -> Act {
     }
 }
 
-fn ticks(b: BoardBench, memory: &mut [u16], eeprom: &mut [u8], count: u32) -> BoardBench {
+fn ticks(
+    rt: &impl Print,
+    b: BoardBench,
+    memory: &mut [u16],
+    eeprom: &mut [u8],
+    count: u32,
+) -> io::Result<BoardBench> {
     let mut c = b;
     let mut left = count;
     while left > 0 {
-        let d = bench::happen(c, memory, eeprom, Event::Tick);
+        let d = bench::happen(rt, c, memory, eeprom, Event::Tick)?;
         c = d;
         left -= 1;
     }
-    c
+    Ok(c)
 }
 
 // One software-triggered conversion and its end.
-fn convert(b: BoardBench, memory: &mut [u16], eeprom: &mut [u8]) -> BoardBench {
-    let c = bench::happen(b, memory, eeprom, write_of(0));
-    let mut d = bench::happen(c, memory, eeprom, end_of(b.code));
+fn convert(
+    rt: &impl Print,
+    b: BoardBench,
+    memory: &mut [u16],
+    eeprom: &mut [u8],
+) -> io::Result<BoardBench> {
+    let c = bench::happen(rt, b, memory, eeprom, write_of(0))?;
+    let mut d = bench::happen(rt, c, memory, eeprom, end_of(b.code))?;
     d.code = std::num::wrapping_add_u16(b.code, 1);
-    d
+    Ok(d)
 }
 
-fn conversions(b: BoardBench, memory: &mut [u16], eeprom: &mut [u8], count: u32) -> BoardBench {
+fn conversions(
+    rt: &impl Print,
+    b: BoardBench,
+    memory: &mut [u16],
+    eeprom: &mut [u8],
+    count: u32,
+) -> io::Result<BoardBench> {
     let mut c = b;
     let mut left = count;
     while left > 0 {
-        let d = convert(c, memory, eeprom);
+        let d = convert(rt, c, memory, eeprom)?;
         c = d;
         left -= 1;
     }
-    c
+    Ok(c)
 }
 
 fn set_byte(eeprom: &mut [u8], value: u32) {
@@ -120,47 +138,57 @@ fn spoil_bench(b: BoardBench, n: u32) -> BoardBench {
 }
 
 // What leaves the bench: a place of a store is set, or the board or its tally is shown.
-fn set_or_show(b: BoardBench, memory: &mut [u16], eeprom: &mut [u8], letter: u8, value: u32) {
-    match letter {
-        b'm' => set_byte(eeprom, value),
-        b'h' => set_place(memory, value),
-        b'y' => view::show_host(b.board),
-        b'q' => view::show_samples(b.board.fifo, memory, b.places),
-        b'k' => bench::show_tally(b),
-        _ => {}
-    }
-}
-
-fn host(
+fn set_or_show(
+    rt: &impl Print,
     b: BoardBench,
     memory: &mut [u16],
     eeprom: &mut [u8],
     letter: u8,
     value: u32,
-) -> BoardBench {
+) -> io::Result<()> {
     match letter {
-        b'b' => bench::start(memory, eeprom, value / 16 % 16, value % 16 == 1),
-        b'z' => spoil_bench(b, value),
-        b'o' => bench::begin_tally(b),
+        b'm' => set_byte(eeprom, value),
+        b'h' => set_place(memory, value),
+        b'y' => view::show_host(rt, b.board)?,
+        b'q' => view::show_samples(rt, b.board.fifo, memory, b.places)?,
+        b'k' => bench::show_tally(rt, b)?,
+        _ => {}
+    }
+    Ok(())
+}
+
+fn host(
+    rt: &impl Print,
+    b: BoardBench,
+    memory: &mut [u16],
+    eeprom: &mut [u8],
+    letter: u8,
+    value: u32,
+) -> io::Result<BoardBench> {
+    match letter {
+        b'b' => Ok(bench::start(memory, eeprom, value / 16 % 16, value % 16 == 1)),
+        b'z' => Ok(spoil_bench(b, value)),
+        b'o' => Ok(bench::begin_tally(b)),
         _ => {
-            set_or_show(b, memory, eeprom, letter, value);
-            b
+            set_or_show(rt, b, memory, eeprom, letter, value)?;
+            Ok(b)
         }
     }
 }
 
 // Does the operation of a letter; another letter does nothing.
 pub fn operate_board(
+    rt: &impl Print,
     b: BoardBench,
     memory: &mut [u16],
     eeprom: &mut [u8],
     letter: u8,
     value: u32,
-) -> BoardBench {
+) -> io::Result<BoardBench> {
     match act_of(letter, value) {
-        Act::One(event) => bench::happen(b, memory, eeprom, event),
-        Act::ManyTicks(count) => ticks(b, memory, eeprom, count),
-        Act::ManyConversions(count) => conversions(b, memory, eeprom, count),
-        Act::ByHost => host(b, memory, eeprom, letter, value),
+        Act::One(event) => bench::happen(rt, b, memory, eeprom, event),
+        Act::ManyTicks(count) => ticks(rt, b, memory, eeprom, count),
+        Act::ManyConversions(count) => conversions(rt, b, memory, eeprom, count),
+        Act::ByHost => host(rt, b, memory, eeprom, letter, value),
     }
 }

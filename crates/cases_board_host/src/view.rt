@@ -1,26 +1,26 @@
 // Shows what a host sees of a board: output codes, DOUT pins, driven lines of the ports, TrimDAC; and the samples held.
 use fifo::Fifo;
-use libc::STDOUT_FILENO;
 use machine::Board;
 use outputs::Outputs;
 use ports::{Port, Ports};
+use std::io;
 
-pub fn show_byte(v: u8) {
+pub fn show_byte(rt: &impl Print, v: u8) -> io::Result<()> {
     let shown = [
         b' ',
         session_digits::hex_digit(v / 16),
         session_digits::hex_digit(v),
     ];
-    io::write_all(STDOUT_FILENO, &shown);
+    rt.write_all(&shown)
 }
 
-pub fn show_word(v: u16) {
-    io::write_all(STDOUT_FILENO, b" ");
-    show_digits(v);
+pub fn show_word(rt: &impl Print, v: u16) -> io::Result<()> {
+    rt.write_all(b" ")?;
+    show_digits(rt, v)
 }
 
 // Four hex digits.
-pub fn show_digits(v: u16) {
+pub fn show_digits(rt: &impl Print, v: u16) -> io::Result<()> {
     let high = (v / 256) as u8;
     let low = (v % 256) as u8;
     let shown = [
@@ -29,12 +29,12 @@ pub fn show_digits(v: u16) {
         session_digits::hex_digit(low / 16),
         session_digits::hex_digit(low),
     ];
-    io::write_all(STDOUT_FILENO, &shown);
+    rt.write_all(&shown)
 }
 
-fn show_code(code: u16) {
+fn show_code(rt: &impl Print, code: u16) -> io::Result<()> {
     if code >= 4096 {
-        io::write_all(STDOUT_FILENO, b"1000");
+        rt.write_all(b"1000")
     } else {
         let high = (code / 256 % 256) as u8;
         let low = (code % 256) as u8;
@@ -43,35 +43,35 @@ fn show_code(code: u16) {
             session_digits::hex_digit(low / 16),
             session_digits::hex_digit(low),
         ];
-        io::write_all(STDOUT_FILENO, &shown);
+        rt.write_all(&shown)
     }
 }
 
-fn show_codes(o: Outputs) {
-    show_code(outputs::code_at(o, 0));
-    io::write_all(STDOUT_FILENO, b",");
-    show_code(outputs::code_at(o, 1));
-    io::write_all(STDOUT_FILENO, b",");
-    show_code(outputs::code_at(o, 2));
-    io::write_all(STDOUT_FILENO, b",");
-    show_code(outputs::code_at(o, 3));
+fn show_codes(rt: &impl Print, o: Outputs) -> io::Result<()> {
+    show_code(rt, outputs::code_at(o, 0))?;
+    rt.write_all(b",")?;
+    show_code(rt, outputs::code_at(o, 1))?;
+    rt.write_all(b",")?;
+    show_code(rt, outputs::code_at(o, 2))?;
+    rt.write_all(b",")?;
+    show_code(rt, outputs::code_at(o, 3))
 }
 
 fn level_of(high: bool) -> u8 {
     if high { b'H' } else { b'L' }
 }
 
-fn show_dout(pins: u8) {
+fn show_dout(rt: &impl Print, pins: u8) -> io::Result<()> {
     let shown = [
         b'/',
         level_of(pins / 4 % 2 == 1),
         level_of(pins / 2 % 2 == 1),
         level_of(pins % 2 == 1),
     ];
-    io::write_all(STDOUT_FILENO, &shown);
+    rt.write_all(&shown)
 }
 
-fn show_port(p: Ports, before: u8, q: Port) {
+fn show_port(rt: &impl Print, p: Ports, before: u8, q: Port) -> io::Result<()> {
     let driven = ports::driven_lines(p, q);
     let levels = ports::driven_levels(p, q);
     let shown = [
@@ -82,70 +82,78 @@ fn show_port(p: Ports, before: u8, q: Port) {
         session_digits::hex_digit(levels / 16),
         session_digits::hex_digit(levels),
     ];
-    io::write_all(STDOUT_FILENO, &shown);
+    rt.write_all(&shown)
 }
 
-fn show_trim(v: u8) {
+fn show_trim(rt: &impl Print, v: u8) -> io::Result<()> {
     let shown = [
         session_digits::hex_digit(v / 16),
         session_digits::hex_digit(v),
     ];
-    io::write_all(STDOUT_FILENO, &shown);
+    rt.write_all(&shown)
 }
 
-fn show_trimdac(trim: [u8; 8]) {
-    io::write_all(STDOUT_FILENO, b"/");
-    show_trim(trim[0]);
-    show_trim(trim[1]);
-    show_trim(trim[2]);
-    show_trim(trim[3]);
-    show_trim(trim[4]);
-    show_trim(trim[5]);
-    show_trim(trim[6]);
-    show_trim(trim[7]);
+fn show_trimdac(rt: &impl Print, trim: [u8; 8]) -> io::Result<()> {
+    rt.write_all(b"/")?;
+    show_trim(rt, trim[0])?;
+    show_trim(rt, trim[1])?;
+    show_trim(rt, trim[2])?;
+    show_trim(rt, trim[3])?;
+    show_trim(rt, trim[4])?;
+    show_trim(rt, trim[5])?;
+    show_trim(rt, trim[6])?;
+    show_trim(rt, trim[7])
 }
 
-pub fn show_host(b: Board) {
-    io::write_all(STDOUT_FILENO, b" ");
-    show_codes(b.outputs);
-    show_dout(machine::dout_pins(b));
+pub fn show_host(rt: &impl Print, b: Board) -> io::Result<()> {
+    rt.write_all(b" ")?;
+    show_codes(rt, b.outputs)?;
+    show_dout(rt, machine::dout_pins(b))?;
     let p = b.ports;
-    show_port(p, b'/', Port::PortA);
-    show_port(p, b',', Port::PortB);
-    show_port(p, b',', Port::PortC);
+    show_port(rt, p, b'/', Port::PortA)?;
+    show_port(rt, p, b',', Port::PortB)?;
+    show_port(rt, p, b',', Port::PortC)?;
     let c = b.calibration;
     let trim = c.trim;
-    show_trimdac(trim);
+    show_trimdac(rt, trim)
 }
 
 // The numbers at two places, where there are such places.
-fn show_ends(memory: &[u16], oldest: usize, newest: usize) {
+fn show_ends(rt: &impl Print, memory: &[u16], oldest: usize, newest: usize) -> io::Result<()> {
     if oldest < memory.len() {
         if newest < memory.len() {
-            io::write_all(STDOUT_FILENO, b":");
-            show_digits(memory[oldest]);
-            io::write_all(STDOUT_FILENO, b"-");
-            show_digits(memory[newest]);
+            rt.write_all(b":")?;
+            show_digits(rt, memory[oldest])?;
+            rt.write_all(b"-")?;
+            show_digits(rt, memory[newest])?;
         }
     }
+    Ok(())
 }
 
 // The oldest and the newest of the samples held, which stand from `place` on, round the memory's places.
-fn show_range(memory: &[u16], places: usize, place: usize, held: usize) {
+fn show_range(
+    rt: &impl Print,
+    memory: &[u16],
+    places: usize,
+    place: usize,
+    held: usize,
+) -> io::Result<()> {
     if place < places {
         if held > 0 {
             let ahead = places - place;
             if held <= ahead {
-                show_ends(memory, place, place + (held - 1));
+                show_ends(rt, memory, place, place + (held - 1))?;
             } else if held <= places {
-                show_ends(memory, place, held - ahead - 1);
+                show_ends(rt, memory, place, held - ahead - 1)?;
             }
         }
     }
+    Ok(())
 }
 
-pub fn show_samples(f: Fifo, memory: &[u16], places: usize) {
-    io::write_all(STDOUT_FILENO, b" ");
-    io::print_decimal(STDOUT_FILENO, f.held as u64);
-    show_range(memory, places, f.place as usize, f.held as usize);
+pub fn show_samples(rt: &impl Print, f: Fifo, memory: &[u16], places: usize) -> io::Result<()> {
+    rt.write_all(b" ")?;
+    rt.print(f.held as u64)?;
+    show_range(rt, memory, places, f.place as usize, f.held as usize)
 }

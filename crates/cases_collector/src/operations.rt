@@ -5,6 +5,7 @@
 // zLLHHNNNN shows how many of N samples are whole scans of the channels from L to H, and the last of them.
 use super::shows;
 use collector::{BusAnswer, Collector, Handed, Settings, Started};
+use std::io;
 
 #[derive(Clone, Copy)]
 pub struct CollectorBench {
@@ -87,34 +88,34 @@ fn poke(b: CollectorBench, letter: u8, value: u32) -> CollectorBench {
     }
 }
 
-fn start(b: CollectorBench) -> CollectorBench {
+fn start(rt: &impl Print, b: CollectorBench) -> io::Result<CollectorBench> {
     let s = b.settings;
     match collector::start(s) {
         Started::Begun(c) => {
-            cases::text(b" ok");
-            CollectorBench {
+            cases::text(rt, b" ok")?;
+            Ok(CollectorBench {
                 settings: s,
                 collector: c,
-            }
+            })
         }
         Started::NotBegun(n) => {
-            shows::refusal(n);
-            b
+            shows::refusal(rt, n)?;
+            Ok(b)
         }
     }
 }
 
 // Brings an answer.
-fn answer(b: CollectorBench, brought: BusAnswer) -> CollectorBench {
+fn answer(rt: &impl Print, b: CollectorBench, brought: BusAnswer) -> io::Result<CollectorBench> {
     let s = b.settings;
     let c = b.collector;
     let t = collector::take_answer(c, brought);
-    shows::taken(t);
+    shows::taken(rt, t)?;
     let d = t.collector;
-    CollectorBench {
+    Ok(CollectorBench {
         settings: s,
         collector: d,
-    }
+    })
 }
 
 fn samples_in(h: Handed) -> u64 {
@@ -138,7 +139,12 @@ fn gaps_in(h: Handed) -> u64 {
 }
 
 // Brings an answer again and again.
-fn answers(b: CollectorBench, count: u32, value: u32) -> CollectorBench {
+fn answers(
+    rt: &impl Print,
+    b: CollectorBench,
+    count: u32,
+    value: u32,
+) -> io::Result<CollectorBench> {
     let s = b.settings;
     let mut c = b.collector;
     let mut samples = 0u64;
@@ -153,11 +159,12 @@ fn answers(b: CollectorBench, count: u32, value: u32) -> CollectorBench {
         c = d;
         left -= 1;
     }
-    cases::text(b" ");
-    cases::decimal(samples);
-    cases::text(b"+");
-    cases::decimal(gaps);
+    cases::text(rt, b" ")?;
+    cases::decimal(rt, samples)?;
+    cases::text(rt, b"+")?;
+    cases::decimal(rt, gaps)?;
     answer(
+        rt,
         CollectorBench {
             settings: s,
             collector: c,
@@ -166,26 +173,26 @@ fn answers(b: CollectorBench, count: u32, value: u32) -> CollectorBench {
     )
 }
 
-fn show_access(b: CollectorBench) -> CollectorBench {
+fn show_access(rt: &impl Print, b: CollectorBench) -> io::Result<CollectorBench> {
     let c = b.collector;
-    shows::access(collector::access_of(c));
-    b
+    shows::access(rt, collector::access_of(c))?;
+    Ok(b)
 }
 
-fn show_record(b: CollectorBench) -> CollectorBench {
+fn show_record(rt: &impl Print, b: CollectorBench) -> io::Result<CollectorBench> {
     let c = b.collector;
-    shows::record(c);
-    b
+    shows::record(rt, c)?;
+    Ok(b)
 }
 
-fn show_fit(b: CollectorBench) -> CollectorBench {
+fn show_fit(rt: &impl Print, b: CollectorBench) -> io::Result<CollectorBench> {
     let c = b.collector;
     if collector::is_fit(c) {
-        cases::text(b" fit");
+        cases::text(rt, b" fit")?;
     } else {
-        cases::text(b" unfit");
+        cases::text(rt, b" unfit")?;
     }
-    b
+    Ok(b)
 }
 
 // The samples 0, 1, 2 and so on.
@@ -200,40 +207,46 @@ fn number_samples(samples: &mut [i16]) {
 }
 
 // How many of the first n samples are whole scans, and the last of them.
-fn show_scans(samples: &[i16], n: usize, low: u32, high: u32) {
+fn show_scans(rt: &impl Print, samples: &[i16], n: usize, low: u32, high: u32) -> io::Result<()> {
     if n <= samples.len() {
         let part = samples::whole_scans(&samples[..n], low, high);
-        cases::text(b" ");
-        cases::decimal(part.len() as u64);
+        cases::text(rt, b" ")?;
+        cases::decimal(rt, part.len() as u64)?;
         if part.len() > 0 {
             let last = part.len() - 1;
-            cases::text(b":");
-            cases::code(part[last]);
+            cases::text(rt, b":")?;
+            cases::code(rt, part[last])?;
         }
     }
+    Ok(())
 }
 
-fn scans(b: CollectorBench, value: u32) -> CollectorBench {
+fn scans(rt: &impl Print, b: CollectorBench, value: u32) -> io::Result<CollectorBench> {
     let mut samples = [0i16; 1024];
     number_samples(&mut samples);
     let n = (value % 65536 % 1025) as usize;
-    show_scans(&samples, n, value / 16777216, value / 65536 % 256);
-    b
+    show_scans(rt, &samples, n, value / 16777216, value / 65536 % 256)?;
+    Ok(b)
 }
 
 // Does the operation of a letter; another letter does nothing.
-pub fn operate_collector(b: CollectorBench, letter: u8, value: u32) -> CollectorBench {
+pub fn operate_collector(
+    rt: &impl Print,
+    b: CollectorBench,
+    letter: u8,
+    value: u32,
+) -> io::Result<CollectorBench> {
     match letter {
-        b'l' | b'j' | b'g' | b'k' | b'm' => choose(b, letter, value),
-        b'i' | b'p' | b'c' | b'o' | b'd' => poke(b, letter, value),
-        b's' => start(b),
-        b'q' => show_access(b),
-        b'a' => answer(b, BusAnswer::Number(word(value))),
-        b'e' => answer(b, BusAnswer::Nothing),
-        b'n' => answers(b, value / 65536, value),
-        b'h' => show_record(b),
-        b'f' => show_fit(b),
-        b'z' => scans(b, value),
-        _ => b,
+        b'l' | b'j' | b'g' | b'k' | b'm' => Ok(choose(b, letter, value)),
+        b'i' | b'p' | b'c' | b'o' | b'd' => Ok(poke(b, letter, value)),
+        b's' => start(rt, b),
+        b'q' => show_access(rt, b),
+        b'a' => answer(rt, b, BusAnswer::Number(word(value))),
+        b'e' => answer(rt, b, BusAnswer::Nothing),
+        b'n' => answers(rt, b, value / 65536, value),
+        b'h' => show_record(rt, b),
+        b'f' => show_fit(rt, b),
+        b'z' => scans(rt, b, value),
+        _ => Ok(b),
     }
 }

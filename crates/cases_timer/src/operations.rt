@@ -1,7 +1,7 @@
 // The operations of a case:
 //   cHH control word; wNHH byte HH for counter N; rN read of counter N; kN one CLK pulse at counter N; xNHHHH as many pulses;
 //   gAB gates become A (counter 0) and B (counters 1 and 2); o shows OUT0, OUT1, OUT2; f shows whether the counters are a working board's.
-use libc::STDOUT_FILENO;
+use std::io;
 use timer::accesses::Written;
 use timer::{Gates, Select, Timer};
 
@@ -32,36 +32,41 @@ fn select_of(n: u32) -> Select {
 }
 
 // The timer after a write; a refusal shows its number.
-fn wrote(b: TimerBench, w: Written) -> TimerBench {
+fn wrote(rt: &impl Print, b: TimerBench, w: Written) -> io::Result<TimerBench> {
     match w {
         Written::Accepted(t) => {
             let g = b.gates;
-            TimerBench { timer: t, gates: g }
+            Ok(TimerBench { timer: t, gates: g })
         }
         Written::Refused(n) => {
-            io::write_all(STDOUT_FILENO, b" ");
-            io::print_decimal(STDOUT_FILENO, n as u64);
-            b
+            rt.write_all(b" ")?;
+            rt.print(n as u64)?;
+            Ok(b)
         }
     }
 }
 
-fn control(b: TimerBench, value: u32) -> TimerBench {
-    let t = b.timer;
-    let g = b.gates;
-    wrote(b, timer::accesses::write_control(t, (value % 256) as u8, g))
-}
-
-fn count(b: TimerBench, value: u32) -> TimerBench {
+fn control(rt: &impl Print, b: TimerBench, value: u32) -> io::Result<TimerBench> {
     let t = b.timer;
     let g = b.gates;
     wrote(
+        rt,
+        b,
+        timer::accesses::write_control(t, (value % 256) as u8, g),
+    )
+}
+
+fn count(rt: &impl Print, b: TimerBench, value: u32) -> io::Result<TimerBench> {
+    let t = b.timer;
+    let g = b.gates;
+    wrote(
+        rt,
         b,
         timer::accesses::write_count(t, select_of(value / 256 % 16), (value % 256) as u8, g),
     )
 }
 
-fn read(b: TimerBench, value: u32) -> TimerBench {
+fn read(rt: &impl Print, b: TimerBench, value: u32) -> io::Result<TimerBench> {
     let t = b.timer;
     let g = b.gates;
     let r = timer::accesses::read(t, select_of(value % 16));
@@ -70,9 +75,9 @@ fn read(b: TimerBench, value: u32) -> TimerBench {
         session_digits::hex_digit(r.byte / 16),
         session_digits::hex_digit(r.byte),
     ];
-    io::write_all(STDOUT_FILENO, &shown);
+    rt.write_all(&shown)?;
     let u = r.timer;
-    TimerBench { timer: u, gates: g }
+    Ok(TimerBench { timer: u, gates: g })
 }
 
 fn pulses(b: TimerBench, n: u32, count: u32) -> TimerBench {
@@ -100,44 +105,49 @@ fn gates(b: TimerBench, value: u32) -> TimerBench {
     }
 }
 
-fn show_level(high: bool) {
+fn show_level(rt: &impl Print, high: bool) -> io::Result<()> {
     if high {
-        io::write_all(STDOUT_FILENO, b"H");
+        rt.write_all(b"H")
     } else {
-        io::write_all(STDOUT_FILENO, b"L");
+        rt.write_all(b"L")
     }
 }
 
-fn show_outs(b: TimerBench) -> TimerBench {
+fn show_outs(rt: &impl Print, b: TimerBench) -> io::Result<TimerBench> {
     let t = b.timer;
-    io::write_all(STDOUT_FILENO, b" ");
-    show_level(timer::out_of(t, Select::Counter0));
-    show_level(timer::out_of(t, Select::Counter1));
-    show_level(timer::out_of(t, Select::Counter2));
-    b
+    rt.write_all(b" ")?;
+    show_level(rt, timer::out_of(t, Select::Counter0))?;
+    show_level(rt, timer::out_of(t, Select::Counter1))?;
+    show_level(rt, timer::out_of(t, Select::Counter2))?;
+    Ok(b)
 }
 
-fn show_working(b: TimerBench) -> TimerBench {
+fn show_working(rt: &impl Print, b: TimerBench) -> io::Result<TimerBench> {
     let t = b.timer;
     if timer::is_working(t) {
-        io::write_all(STDOUT_FILENO, b" fit");
+        rt.write_all(b" fit")?;
     } else {
-        io::write_all(STDOUT_FILENO, b" unfit");
+        rt.write_all(b" unfit")?;
     }
-    b
+    Ok(b)
 }
 
 // Does the operation of a letter; another letter does nothing.
-pub fn operate_timer(b: TimerBench, letter: u8, value: u32) -> TimerBench {
+pub fn operate_timer(
+    rt: &impl Print,
+    b: TimerBench,
+    letter: u8,
+    value: u32,
+) -> io::Result<TimerBench> {
     match letter {
-        b'c' => control(b, value),
-        b'w' => count(b, value),
-        b'r' => read(b, value),
-        b'k' => pulses(b, value % 16, 1),
-        b'x' => pulses(b, value / 65536 % 16, value % 65536),
-        b'g' => gates(b, value),
-        b'o' => show_outs(b),
-        b'f' => show_working(b),
-        _ => b,
+        b'c' => control(rt, b, value),
+        b'w' => count(rt, b, value),
+        b'r' => read(rt, b, value),
+        b'k' => Ok(pulses(b, value % 16, 1)),
+        b'x' => Ok(pulses(b, value / 65536 % 16, value % 65536)),
+        b'g' => Ok(gates(b, value)),
+        b'o' => show_outs(rt, b),
+        b'f' => show_working(rt, b),
+        _ => Ok(b),
     }
 }

@@ -1,77 +1,79 @@
 // Prints the answers of a case: exact decimals, numbers, refusals.
-use libc::STDOUT_FILENO;
+use std::io;
 
 // The digits after the point, as many as there are: rest stands for rest / 10 ^ 18.
-fn fraction(rest: u64) {
+fn fraction(rt: &impl Print, rest: u64) -> io::Result<()> {
     let mut rest = rest % 1000000000000000000;
     if rest == 0 {
-        return;
+        return Ok(());
     }
-    io::write_all(STDOUT_FILENO, b".");
+    rt.write_all(b".")?;
     let mut places: u64 = 18;
     while places > 0 {
         if rest == 0 {
-            return;
+            return Ok(());
         }
-        io::print_decimal(STDOUT_FILENO, rest / 100000000000000000);
+        rt.print(rest / 100000000000000000)?;
         rest = rest % 100000000000000000 * 10;
         places -= 1;
     }
+    Ok(())
 }
 
 // So many times 2 ^ -18: a fraction over 2 ^ 18 is 5 ^ 18 times as much over 10 ^ 18.
-fn over_two_to_18(n: u64) {
-    io::print_decimal(STDOUT_FILENO, n / 262144);
-    fraction(n % 262144 * 3814697265625);
+fn over_two_to_18(rt: &impl Print, n: u64) -> io::Result<()> {
+    rt.print(n / 262144)?;
+    fraction(rt, n % 262144 * 3814697265625)
 }
 
 // x, which is not negative. What is no whole number over 2 ^ 18 below 2 ^ 46 is shown as inexact.
-fn magnitude(x: f64) {
+fn magnitude(rt: &impl Print, x: f64) -> io::Result<()> {
     let n = x * 262144.0;
     if n > -1.0 {
         if n < 18446744073709551616.0 {
             let whole = std::num::truncating_f64_to_u64(n);
-            over_two_to_18(whole);
+            over_two_to_18(rt, whole)?;
             if std::num::nearest_u64_to_f64(whole) != n {
-                io::write_all(STDOUT_FILENO, b" inexact");
+                rt.write_all(b" inexact")?;
             }
         }
     }
+    Ok(())
 }
 
 // Volts as an exact decimal; of -0.0 the sign is shown.
-pub fn volts(x: f64) {
+pub fn volts(rt: &impl Print, x: f64) -> io::Result<()> {
     if (x < 0.0) | (1.0 / x < 0.0) {
-        io::write_all(STDOUT_FILENO, b"-");
-        magnitude(-x);
+        rt.write_all(b"-")?;
+        magnitude(rt, -x)?;
     } else {
-        magnitude(x);
+        magnitude(rt, x)?;
     }
-    io::write_all(STDOUT_FILENO, b" V\n");
+    rt.write_all(b" V\n")
 }
 
-pub fn refused(number: u32) {
-    io::write_all(STDOUT_FILENO, b"refused ");
-    io::print_decimal(STDOUT_FILENO, number as u64);
-    io::write_all(STDOUT_FILENO, b"\n");
+pub fn refused(rt: &impl Print, number: u32) -> io::Result<()> {
+    rt.write_all(b"refused ")?;
+    rt.print(number as u64)?;
+    rt.write_all(b"\n")
 }
 
 // The plain number of a code: the code or its refusal.
-pub fn code(n: u32) {
+pub fn code(rt: &impl Print, n: u32) -> io::Result<()> {
     if n >= 65536 {
-        return refused(n - 65536);
+        return refused(rt, n - 65536);
     }
-    io::print_decimal(STDOUT_FILENO, n as u64);
-    io::write_all(STDOUT_FILENO, b"\n");
+    rt.print(n as u64)?;
+    rt.write_all(b"\n")
 }
 
 // The plain number of two bytes: the LSB and the MSB, or the refusal.
-pub fn bytes(n: u32) {
+pub fn bytes(rt: &impl Print, n: u32) -> io::Result<()> {
     if n >= 65536 {
-        return refused(n - 65536);
+        return refused(rt, n - 65536);
     }
-    io::print_decimal(STDOUT_FILENO, (n % 256) as u64);
-    io::write_all(STDOUT_FILENO, b" ");
-    io::print_decimal(STDOUT_FILENO, (n / 256) as u64);
-    io::write_all(STDOUT_FILENO, b"\n");
+    rt.print((n % 256) as u64)?;
+    rt.write_all(b" ")?;
+    rt.print((n / 256) as u64)?;
+    rt.write_all(b"\n")
 }

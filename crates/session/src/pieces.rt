@@ -3,8 +3,8 @@ ghost use Rattle.std.specs.Prelude.{◌≤◌, length, take};
 ghost use Rattle.session_talk.specs.Session.{talk_of};
 ghost use Rattle.session.specs.Took.{Took};
 
-use libc::STDOUT_FILENO;
 use session_feed::Session;
+use std::io::Read;
 
 // The session after some bytes, how many they are, whether to go on, and whether the input has come to its end.
 #[derive(Clone, Copy)]
@@ -17,6 +17,7 @@ pub struct AfterBytes {
 
 // Answers a piece: as much of it as `out` has room for, then the rest.
 pub fn answer(
+    rt: &impl Print,
     piece: &[u8],
     session: Session,
     memory: &mut [u16],
@@ -36,7 +37,7 @@ pub fn answer(
         let taken = fed.taken;
         session = next;
         from += taken;
-        more = io::write_all(STDOUT_FILENO, &out[..at]) & more;
+        more = rt.write_all(&out[..at]).is_ok() & more;
     }
     AfterBytes {
         session,
@@ -48,6 +49,8 @@ pub fn answer(
 
 // One read, its answer, and whether to go on. A read of no bytes is the end of the input; a read that fails is not.
 pub fn take_read(
+    rt: &impl Print,
+    input: &mut impl Read,
     session: Session,
     memory: &mut [u16],
     eeprom: &mut [u8],
@@ -58,15 +61,15 @@ pub fn take_read(
     ensures { Took (talk_of session memory.old eeprom.old) (take result.taken buf.new) memory.new
         eeprom.new result }
 {
-    let got = libc::read(0, buf);
-    if got <= 0 {
+    let got = input.read(buf);
+    let n = got.unwrap_or(0);
+    if n == 0 {
         return AfterBytes {
             session,
             taken: 0,
             more: false,
-            ended: got == 0,
+            ended: got.is_ok(),
         };
     }
-    let n = io::count(got, buf);
-    answer(&buf[..n], session, memory, eeprom, out)
+    answer(rt, &buf[..n], session, memory, eeprom, out)
 }
