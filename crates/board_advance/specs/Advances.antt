@@ -44,13 +44,13 @@ module _ (m e : List ℕ) where
   -- one tick event of a board that is not refused
   pub tick-state : (b : Board) → Opened b m e
       → after_tick (record { board = b; memory = m; eeprom = e }) ≡ record { board = ticked_board b; memory = m; eeprom = e }
-  tick-state b o = let p = tick-step b m e o in rw (sym p.0, sym p.1.0, sym p.1.1)
+  tick-state b o = let p = tick-step b m e o in rw (sym p.value, sym p.memory_after, sym p.eeprom_after)
 
   pub one-tick : (n d : ℕ) (b : Board) → Opened b m e
       → advanced_from (suc n) d b m e
       ≡ (if news b (ticked_board b) then record { board = ticked_board b; progress = record { answer = Done; done = suc d } }
       else advanced_from n (suc d) (ticked_board b) m e)
-  one-tick n d b o = let p = tick-step b m e o in rw (sym p.0, sym p.1.0, sym p.1.1)
+  one-tick n d b o = let p = tick-step b m e o in rw (sym p.value, sym p.memory_after, sym p.eeprom_after)
 
   -- ---- the ticks after the first
   module _ (b : Board) (o : Opened b m e) where

@@ -1,0 +1,31 @@
+-- `board_signals::din_pins` meets its contract, by a law for each way out. Assumes nothing. Written by tools/ways.py.
+use Rattle.std.proofs.Common.{ap, not}
+use Rattle.board_signals.proofs.Arms as arms
+use Rattle.board_step.specs.Ways as ways
+use Rattle.board_signals.proofs.din_pins.Goals as goal
+
+pub returns-then-memory-eeprom : goal.returns-then-memory-eeprom
+returns-then-memory-eeprom c =
+    ways.wrong c.args.board c.args.memory.now c.args.eeprom.now _
+    c.if-memory-eeprom.true
+
+pub returns-then-not-is_working : goal.returns-then-not-is_working
+returns-then-not-is_working c =
+    ways.broken c.args.board c.args.memory.now
+    c.args.eeprom.now _ c.if-memory-eeprom.false c.is_working.ensures
+    (ap not c.if-not-is_working.true)
+
+pub returns-then-lines-gt15 : goal.returns-then-lines-gt15
+returns-then-lines-gt15 c =
+    arms.din-refused c.args.board
+    c.args.memory.now
+    c.args.eeprom.now
+    (ways.opened c.if-memory-eeprom.false c.is_working.ensures (ap not c.if-not-is_working.false)) c.if-lines-gt15.true
+
+pub returns-else-lines-gt15 : goal.returns-else-lines-gt15
+returns-else-lines-gt15 c =
+    arms.din c.args.board
+    c.args.memory.now
+    c.args.eeprom.now
+    (ways.opened c.if-memory-eeprom.false c.is_working.ensures (ap not c.if-not-is_working.false))
+    c.if-lines-gt15.false c.set_din-c.ensures

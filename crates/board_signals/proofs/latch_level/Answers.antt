@@ -1,0 +1,25 @@
+-- `board_signals::latch_level` meets its contract, by a law for each way out. Assumes nothing. Written by tools/ways.py.
+use Rattle.std.proofs.Common.{ap, not}
+use Rattle.board_signals.proofs.Arms as arms
+use Rattle.board_step.specs.Ways as ways
+use Rattle.board_signals.proofs.latch_level.Goals as goal
+
+pub returns-then-memory-eeprom : goal.returns-then-memory-eeprom
+returns-then-memory-eeprom c =
+    ways.wrong c.args.board c.args.memory.now c.args.eeprom.now _
+    c.if-memory-eeprom.true
+
+pub returns-then-not-is_working : goal.returns-then-not-is_working
+returns-then-not-is_working c =
+    ways.broken c.args.board c.args.memory.now
+    c.args.eeprom.now _ c.if-memory-eeprom.false c.is_working.ensures
+    (ap not c.if-not-is_working.true)
+
+pub returns-else-not-is_working : goal.returns-else-not-is_working
+returns-else-not-is_working c =
+    arms.latch c.args.board
+    c.args.memory.now
+    c.args.eeprom.now
+    c.args.level
+    (ways.opened c.if-memory-eeprom.false c.is_working.ensures
+    (ap not c.if-not-is_working.false)) c.ask_latch-c.ensures
