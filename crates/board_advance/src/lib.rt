@@ -1,5 +1,6 @@
 // Many ticks in one call: specs/Advance.antt says what they come to, one event after another; crates/machine_strides takes them at once where it can.
 #![tactic(auto)]
+
 ghost use Rattle.std.specs.Prelude.{◌-◌, ◌≡◌};
 ghost use Rattle.machine_record.specs.Working.{WorkingMachine};
 ghost use Rattle.board_advance.specs.Advance.{advanced_of};

@@ -1,5 +1,6 @@
 // An answer of the board as one number, for hosts in other languages (include/cowriestep.h).
 #![tactic(auto)]
+
 ghost use Rattle.std.specs.Prelude.{◌≡◌, ◌<◌};
 ghost use Rattle.board_events.specs.Answers.{refusal_number};
 ghost use Rattle.numbers_answers.specs.Packed.{answer_number, decoded};

@@ -1,5 +1,6 @@
 // The collector by value, in records of numbers, for hosts in other languages (include/cowriestep.h): so that the exported functions only pass them on.
 #![tactic(auto)]
+
 ghost use Rattle.std.specs.Prelude.{◌≡◌, length};
 ghost use Rattle.collector_records.specs.Records.{start_of};
 ghost use Rattle.collector_phases.specs.Accesses.{access_of};
