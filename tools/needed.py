@@ -14,9 +14,9 @@ import re
 import sys
 
 
-def read_lists():
+def read_lists(path='crates.txt'):
     """crates.txt: each crate to what it lists."""
-    return {m.group(1): m.group(2).split() for m in re.finditer(r'^(\w+)(?: +staticlib)? *:([^#\n]*)', open('crates.txt').read(), re.M)}
+    return {m.group(1): m.group(2).split() for m in re.finditer(r'^(\w+)(?: +staticlib)? *:([^#\n]*)', open(path).read(), re.M)}
 
 
 def paths_of(used):
