@@ -1,8 +1,8 @@
 /*
  * Cowriestep: the Diamond-MM-32-AT board as plain C functions. Every function is proved to do what its comment says, for all inputs.
  *
- * Link with the static library that `rt staticlib cowriestep` writes: target/staticlib/libcowriestep.a. dmm32_turn stands in that of `rt staticlib
- * cowriestep_turn`, libcowriestep_turn.a, and dmm32_step, dmm32_note, dmm32_note_ticks and dmm32_tally_adds_up in that of `rt staticlib cowriestep_tally`,
+ * Link with the static library that `rt lib` writes in crates/cowriestep: out/libcowriestep.a. dmm32_turn stands in that of crates/cowriestep_turn,
+ * libcowriestep_turn.a, and dmm32_step, dmm32_note, dmm32_note_ticks and dmm32_tally_adds_up in that of crates/cowriestep_tally,
  * libcowriestep_tally.a, which a host that uses them links besides.
  * "The manual" is the board's, V2.64, with the data sheet of its 82C54 timer.
  *
@@ -515,7 +515,7 @@ size_t dmm32_whole_scans(const int16_t *samples, size_t length, uint32_t low, ui
 /*
  * ---- any event as one record of numbers, and where every sample went
  *
- * These four stand in libcowriestep_tally.a, that of `rt staticlib cowriestep_tally`, which a host that uses one of them links besides.
+ * These four stand in libcowriestep_tally.a, that of crates/cowriestep_tally, which a host that uses one of them links besides.
  */
 
 /* An event. What a kind does not have is not looked at. */

@@ -168,22 +168,22 @@ def named_by_edits(crate):
 
 
 def files():
-    return sorted(path for kind in ('antt', 'rt') for path in glob.glob(f'crates/**/*.{kind}', recursive=True))
+    return sorted(path for kind in ('antt', 'rt') for part in ('src', 'specs', 'proofs') for path in glob.glob(f'crates/*/{part}/**/*.{kind}', recursive=True))
 
 
 def settle(paths):
     """Breaks the longer lines of these files of crates/, and has `rt fmt` lay out what was broken."""
-    changed = False
+    changed = set()
     for path in paths:
         text = open(path, encoding='utf-8').read()
         kept = named_by_edits(path.split('/')[1]).get(path, set()) | named_by_trials().get(path, set())
         new = broken(text, sorted(kept), path.endswith('.antt'))
         if new != text:
-            changed = True
+            changed.add('/'.join(path.split('/')[:2]))
             with open(path, 'w', encoding='utf-8') as out:
                 out.write(new)
-    if changed:
-        subprocess.run(['rt', 'fmt'], check=True)
+    for crate in sorted(changed):
+        subprocess.run(['rt', 'fmt'], cwd=crate, check=True)
 
 
 def check():

@@ -31,9 +31,10 @@ def listed_crates():
     return sorted(os.path.basename(d) for d in glob.glob('crates/*') if os.path.isdir(d + '/src'))
 
 
-def words(text):
-    """The names in a text; a record's field after a value, `x .held`, is none."""
-    text = re.sub(r'(?<=[\s)\]])\.[^\s(){}\[\],;.]+', ' ', text)
+def words(text, modules=()):
+    """The names in a text; a record's field after a value, `x.held`, is none. What stands after a module's name is one."""
+    text = re.sub(r'(?<=[)\]])(?:\.[^\s(){}\[\],;.]+)+', ' ', text)
+    text = re.sub(r"(?<![\w'.])([a-z][^\s(){}\[\],;.`\"]*)((?:\.[^\s(){}\[\],;.]+)+)", lambda m: m.group(0) if m.group(1) in modules else m.group(1), text)
     return set(re.findall(r'[^\s(){}\[\],;.`"]+', text))
 
 
@@ -55,6 +56,17 @@ def source_parts(file, text):
             public = bool(m.group(1)) if kind is FUNCTION else False
             found[Part(file, m.group(m.lastindex))] = (line_of(text, m.start()), line_of(text, end), text[m.start():end], public)
     return found
+
+
+def attributes(text, line):
+    """What stands in attributes right before a line, its paths as words."""
+    above = re.search(r'(?:^#\[(?:[^\n]|\n(?! *#\[|\n))*\n)*\Z', ''.join(one + '\n' for one in text.split('\n')[:line - 1]), re.M)
+    return re.sub(r'::|#', ' ', above.group()) + '\n' if above else ''
+
+
+def without_calls(text):
+    """A function's text without the names of functions: a definition may have the name of one."""
+    return re.sub(r'(?:\bfn )?\b\w+(?=\()', ' ', text)
 
 
 def logic_parts(file, text):
@@ -82,19 +94,20 @@ def logic_parts(file, text):
 
 
 # A proof's lines for the modules that the prover makes of the function itself: the names in their paths are those of src/.
-OWN_MODULES = re.compile(r'^use Rattle·\w+·proofs\.proofs\.\S+\.(?:Statement|Tie|Reads|Lts)\b.*$', re.M)
+OWN_MODULES = re.compile(r'^use Rattle\.\w+\.proofs\.\S+\.(?:Goals|Statement|Tie|Reads|Lts)\b.*$', re.M)
 
 
 class Crate:
     def __init__(self, name):
         self.name, self.root = name, f'crates/{name}'
-        self.functions, self.others, self.logic, self.aliases, self.uses = {}, {}, {}, {}, {}
+        self.functions, self.others, self.logic, self.aliases, self.uses, self.attributes = {}, {}, {}, {}, {}, {}
         for path in sorted(glob.glob(f'{self.root}/src/*.rt')):
             file, text = os.path.relpath(path, self.root), open(path).read()
             self.aliases[file] = re.findall(r'([^\s{},]+) as ([^\s{},;]+)', text)
-            self.uses[file] = '\n'.join(re.findall(r'^use .*', text, re.M))
+            self.uses[file] = '\n'.join(' '.join(used.split()) for used in re.findall(r'^(?:pub )?use [^;]*;', text, re.M))
             for part, value in source_parts(file, text).items():
                 (self.functions if value[2].lstrip().startswith(('fn', 'pub fn', 'extern', 'pub extern')) else self.others)[part] = value
+                self.attributes[part] = attributes(text, value[0])
         self.proof_files = {}
         for path in sorted(glob.glob(f'{self.root}/specs/**/*.antt', recursive=True) + glob.glob(f'{self.root}/proofs/**/*.antt', recursive=True)):
             file, text = os.path.relpath(path, self.root), open(path).read()
@@ -108,7 +121,7 @@ class Crate:
                 self.logic.update(logic_parts(file, text))
         self.by_word = collections.defaultdict(set)
         for part in [*self.logic, *self.others]:
-            for word in {part.name, *part.name.split('_')} - {''}:
+            for word in {part.name, *part.name.split('◌')} - {''}:
                 self.by_word[word].add(part)
 
     def owner(self, file):
@@ -122,19 +135,19 @@ class Crate:
 
     def named(self, file, text):
         """The parts of specs/ and shared proofs, the constants and the types that a text names."""
-        here = words(text)
-        here |= {w for given, alias in self.aliases.get(file, ()) if alias in here for w in words(given)}
+        aliases = self.aliases.get(file, ())
+        here = words(text, {alias for _, alias in aliases})
+        here |= {w for given, alias in aliases if alias in here for w in words(given, {given.split('.')[0]})}
         return set().union(*(self.by_word[w] for w in here if w in self.by_word))
 
     @functools.lru_cache(None)
     def direct(self, part):
         if part in self.functions:
-            text = self.functions[part][2]
-            found = self.named(part.file, text)
+            found = self.named(part.file, self.attributes[part] + without_calls(self.functions[part][2]))
             for file, proof in self.proof_files.get(part, ()):
                 found |= self.named(file, proof)
             for callee in self.called(part):
-                found |= self.named(callee.file, contract(self.functions[callee][2])) | {promise_of(callee)}
+                found |= self.named(callee.file, without_calls(contract(self.functions[callee][2]))) | {promise_of(callee)}
         elif is_promise(part):
             found = set()
         else:
@@ -154,7 +167,7 @@ class Crate:
     def path_to(self, function, file):
         module = os.path.basename(function.file)[:-3]
         path = r'(?:crate|super)::' if module in ('lib', 'main') else r'(?:(?:crate|super)::)?' + module + '::'
-        brought = re.search(rf'^use .*\b{function.name}\b', self.uses.get(file, ''), re.M)
+        brought = re.search(rf'^(?:pub )?use .*\b{function.name}\b', self.uses.get(file, ''), re.M)
         return f'(?:{path})?' if function.file == file or brought else path
 
     @functools.lru_cache(None)
@@ -182,8 +195,8 @@ class Crate:
         """Whether a declaration states something that the prover can refuse, as a definition does not."""
         if part not in self.logic:
             return False
-        statement = re.split(r'\n *' + re.escape(part.name) + r'(?: [^\n]*)? =', self.logic[part][2])[0]
-        return '-' in part.name or '≡' in statement and not re.search(r'\n *(?:pub )?(?:record|data) ', statement)
+        head = re.search(r'^ *((?:(?:pub|abbrev|opaque|unfoldable|record|data) )*)\S*' + re.escape(part.name) + r'(?=[\s:({]|$)', self.logic[part][2], re.M)
+        return bool(head) and not re.search(r'abbrev|opaque|unfoldable|record|data', head.group(1))
 
     def full_name(self, part):
         module = os.path.basename(part.file)[:-3]

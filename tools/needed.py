@@ -4,7 +4,7 @@
     needed.py            fails where a crate lists a library that it does not need: a check loads what is listed, so it would cost time for nothing
     needed.py CRATE...   the libraries that these need at the most, in the order of crates.txt
 
-A crate needs the libraries whose items its code names (`fifo::pop`), those whose definitions its specs, proofs and promises name (`Rattle·fifo.specs`), and those
+A crate needs the libraries whose items its code names (`fifo::pop`), those whose definitions its specs, proofs and promises name (`Rattle.fifo.specs`), and those
 that declare a type which a value in its functions has or holds at any depth. What only the promises or proofs of other libraries rest on is found without
 being listed. The last kind is found by names alone, so a crate may need less than is said here.
 """
@@ -13,20 +13,34 @@ import os
 import re
 import sys
 
-KIT = ('io', 'libc', 'os', 'check', 'bytes')
 
-
-def read_lists():
+def read_lists(path='crates.txt'):
     """crates.txt: each crate to what it lists."""
-    return {m.group(1): m.group(2).split() for m in re.finditer(r'^(\w+):(.*)$', open('crates.txt').read(), re.M)}
+    return {m.group(1): m.group(2).split() for m in re.finditer(r'^(\w+)(?: +staticlib)? *:([^#\n]*)', open(path).read(), re.M)}
+
+
+def paths_of(used):
+    """The paths that a `use` line names, `a::{b, c::d}` as two."""
+    head, brace, rest = ''.join(used.split()).partition('{')
+    if not brace:
+        return [head]
+    inner, depth, parts = rest[:rest.rindex('}')], 0, ['']
+    for sign in inner:
+        depth += (sign == '{') - (sign == '}')
+        if sign == ',' and not depth:
+            parts.append('')
+        else:
+            parts[-1] += sign
+    return [head + path for part in parts if part for path in paths_of(part)]
 
 
 class Sources:
     """The code of all crates: types, functions' signatures and `use` lines, by (crate, module)."""
 
-    def __init__(self, crates):
-        self.crates, self.text, self.types, self.signatures, self.uses = crates, {}, {}, {}, {}
-        for crate in crates:
+    def __init__(self, lists):
+        self.crates, self.kit = list(lists), sorted({d for listed in lists.values() for d in listed} - set(lists))
+        self.text, self.types, self.signatures, self.uses = {}, {}, {}, {}
+        for crate in self.crates:
             for path in glob.glob(f'crates/{crate}/src/*.rt'):
                 module = os.path.basename(path)[:-3]
                 self.read(crate, '' if module in ('lib', 'main') else module, re.sub(r'//[^\n]*', '', open(path).read()))
@@ -37,7 +51,7 @@ class Sources:
             self.types[crate, module, m.group(1)] = m.group(2)
         for m in re.finditer(r'\bfn (\w+)(.*?)(?=\n\{|\n    (?:requires|ensures)|\{)', text, re.S):
             self.signatures[crate, module, m.group(1)] = m.group(2)
-        self.uses[crate, module] = {m.group(1).split('::')[-1]: m.group(1) for m in re.finditer(r'^\s*(?:pub )?use ([\w:]+);', text, re.M)}
+        self.uses[crate, module] = {path.split('::')[-1]: path for m in re.finditer(r'^\s*(?:pub )?use ([^;]+);', text, re.M) for path in paths_of(m.group(1))}
 
     def found(self, crate, module, path, seen=()):
         """Where a path that stands in a module leads: (crate, module, name), or None."""
@@ -76,7 +90,7 @@ class Sources:
         if not any(key[0] == crate for key in self.signatures):
             return done
         for (owner, module), text in self.text.items():
-            for word in set(re.findall(r'(?<![\w:·])[a-zA-Z_]\w*(?:::\w+)*', text)) if owner == crate else ():
+            for word in set(re.findall(r'(?<![\w:.])[a-zA-Z_]\w*(?:::\w+)*', text)) if owner == crate else ():
                 key = self.found(crate, module, word)
                 if key in self.types:
                     self.held(key, done)
@@ -92,13 +106,13 @@ class Sources:
             if path.endswith(('.rt', '.antt')):
                 text = open(path).read()
                 code = re.sub(r'//[^\n]*', '', text) if path.endswith('.rt') else ''
-                named |= {d for d in [*self.crates, *KIT] if re.search(rf'Rattle·{d}[.·]', text)
-                          or (crate, d) not in self.text and re.search(rf'(?<![\w:·]){d}::', code)}
+                named |= {d for d in [*self.crates, *self.kit] if re.search(rf'\bRattle\.{d}\.', text)
+                          or (crate, d) not in self.text and re.search(rf'(?<![\w:]){d}::', code)}
         return named
 
     def needed(self, crate):
         need = (self.libraries_named(crate) | self.libraries_of_values(crate)) - {crate}
-        return [d for d in [*self.crates, *KIT] if d in need]
+        return [d for d in [*self.crates, *self.kit] if d in need]
 
 
 def main(names):

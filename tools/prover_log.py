@@ -1,4 +1,4 @@
-"""What the prover said of an edited crate: target/must-fail/CRATE/EDIT/.log.
+"""What the prover said of an edited crate, in what `rt check` prints of it (wrong_answers.py).
 
 A part (crate_text) is refused by itself where its own text, contract or proof does not hold, and not since something that it names or calls was refused.
 A refusal shows that an answer is wrong only where a fact is false: two terms that should be equal and are not, or a statement of which every way of proving
@@ -14,12 +14,12 @@ SECOND_HAND = 'was not admitted'
 FALSE = re.compile(
     r'the two types (?:first )?differ|the two types are|but this has type|` ≟ `'
     r'|must be a path whose two ends are equal'
-    r'|All of that holds, and the (?:goal|part) fails'
-    r'|`search`: no proof of|`search` does not close')
+    r'|All of that holds, and the (?:goal|part) fails|The hypotheses hold, and the goal fails'
+    r'|`search`: no proof of|`search` did not prove')
 # The proof does not fit the code, or a step of it found nothing to do.
 UNFIT = re.compile(r'can be named from here|has no field|no occurrence of|has an instance')
 
-ERROR = re.compile(r'^\S*?/((?:src|specs|proofs)/\S+?):(\d+):\d+: error: (.*)$')
+ERROR = re.compile(r'^(?:\S*?/)?((?:src|specs|proofs)/\S+?):(\d+):\d+: error: (.*)$')
 VERDICT = re.compile(r'^fn (\S+): (.*)$', re.M)
 
 

@@ -1,13 +1,13 @@
 #!/usr/bin/env python3
 """Would a wrong reading be noticed? Makes each change of trials.txt in a scratch copy and says what notices it first.
 
-    python3 tools/trials.py [--cases | --model | --specs] [WORD...]
+    python3 tools/trials.py [--cases | --specs] [WORD...]
     python3 tools/trials.py table FILE...
 
-Without an option: the named cases, compiled without proof; where they notice nothing, tests/host against the libraries, built without proof; where these
-notice nothing, the worlds of tests/archive and the random lines of tests/models. With --cases the named cases alone. With --model the model of
-tests/host/model alone, for the first change of each definitions file of the board and its tally. With --specs the changes of trials_specs.txt: `rt check`
-says which theorem or function they leave unproved. With words, all the changes whose heading or sentence has one of them, and no others.
+Without an option: the named cases, run by `rt try`, without proof; where they notice nothing, the worlds of tests/archive and the random lines of
+tests/models. With --cases the named cases alone. With --specs the changes of trials_specs.txt: `rt check` says which theorem or function they leave
+unproved. With words, all the changes whose heading or sentence has one of them, and no others. What only tests/host noticed (docs/TRIALS.md) was tried with an
+older kit: today's makes a library of proved code alone.
 
 Each change is one line, and at the end come the tables and sums of docs/TRIALS.md; `table` makes these of lines that were kept in files.
 
@@ -19,12 +19,11 @@ import re
 import sys
 import tempfile
 
-from trials_library import LIBRARIES, Library
 from trials_programs import Programs, Sources, longer_runs, named_runs
 from trials_specs import Proofs
 from trials_table import NOT_MADE, print_table, read_results
 
-OPTIONS = "--cases", "--model", "--specs"
+OPTIONS = "--cases", "--specs"
 
 
 class Trial:
@@ -94,12 +93,10 @@ def noticers_of(option, sources, trials):
     """What looks at a change, in this order."""
     if option == "--specs":
         return [Proofs(sources, trials)]
-    if option == "--model":
-        return [Library(sources, "the model", ["tally"], "tests/host/model/run", "")]
-    named = Programs(sources, named_runs(), 0)
+    named = Programs(sources, named_runs(), 60)
     if option == "--cases":
         return [named]
-    return [named, Library(sources, "tests/host", LIBRARIES, "tests/host/run", "libcowriestep.a"), Programs(sources, longer_runs(), 1)]
+    return [named, Programs(sources, longer_runs(), 600)]
 
 
 def main():
@@ -116,9 +113,6 @@ def main():
         noticers = noticers_of(option, sources, trials)
         if option != "--specs" and first_notice(noticers, sources.deps):
             sys.exit("something differs without a change")
-        if option == "--model":
-            trials = [t for t in trials if any(noticers[0].reaches(file) for file in t.files())]
-            trials = trials if words else list({t.heading: t for t in reversed(trials)}.values())[::-1]
         for trial in trials:
             notice = try_one(sources, noticers, trial)
             lines.append("%s | %s | %s" % (trial.heading, trial.sentence, "%s: %s" % notice if notice else "UNNOTICED"))

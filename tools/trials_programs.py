@@ -1,42 +1,13 @@
-"""The crates' sources in a scratch copy, and the case programs that tools/trials.py compiles from them without proof and runs."""
+"""The crates' sources in a scratch copy, and the case programs that tools/trials.py has `rt try` compile from them without proof and run."""
 import os
-import platform
+import re
 import shutil
 import subprocess
 import sys
-import threading
+
+from needed import read_lists
 
 ROOT = os.path.dirname(os.path.dirname(os.path.abspath(__file__)))
-KIT = os.environ.get("RATTLE_HOME") or os.path.dirname(os.path.dirname(os.path.realpath(shutil.which("rt"))))
-OWN = os.path.join(KIT, "on", platform.machine())
-CASES = os.path.join(OWN, "bin", "rattle-cases")
-# Programs are for x86-64: what runs one here.
-LIBRARIES = os.path.join(OWN, "toolchain", "lib")
-LOADER = os.path.join(LIBRARIES, "ld-linux-x86-64.so.2")
-RUNS = [] if platform.machine() == "x86_64" else [os.path.join(OWN, "toolchain", "bin", "qemu-x86_64"), LOADER, "--library-path", LIBRARIES]
-
-# A compiler at a level of its own, since the longer runs are slow at -O0, and a linker that keeps the program and then fails, so that each program
-# is compiled once only.
-COMPILER = """#!/bin/sh
-for word; do shift; if [ "$word" = -O%d ]; then word=-O%d; fi; set -- "$@" "$word"; done
-exec %s/toolchain/bin/clang "$@"
-"""
-LINKER = """#!/bin/sh
-%s/toolchain/bin/ld.lld "$@" || exit 1
-while [ $# -gt 1 ]; do if [ "$1" = -o ]; then cp "$2" "%s"; fi; shift; done
-exit 1
-"""
-
-
-def toolchain(folder, told, level, linker):
-    """A folder of tools for the kit: a compiler that optimises at this level where it is told the other one, 0 or 3, and this linker."""
-    os.makedirs(os.path.join(folder, "bin"))
-    os.symlink(os.path.join(OWN, "toolchain", "lib"), os.path.join(folder, "lib"))
-    os.symlink(os.path.join(OWN, "toolchain", "bin", "llvm-ar"), os.path.join(folder, "bin", "llvm-ar"))
-    for tool, text in ("clang", COMPILER % (told, level, OWN)), ("ld.lld", linker):
-        with open(os.path.join(folder, "bin", tool), "w") as file:
-            file.write(text)
-        os.chmod(os.path.join(folder, "bin", tool), 0o755)
 
 
 class Sources:
@@ -44,15 +15,10 @@ class Sources:
 
     def __init__(self, work):
         self.work, self.crates = work, os.path.join(work, "crates")
-        self.deps = {}
-        for line in open(os.path.join(ROOT, "crates.txt"), encoding="utf-8"):
-            name, colon, deps = line.split("#")[0].partition(":")
-            if colon:
-                self.deps[name.strip()] = deps.split()
-        for line in open(os.path.join(KIT, "libs", "libs.txt"), encoding="utf-8"):
-            name, _, deps = line.partition(":")
-            self.deps.setdefault(name.strip(), deps.split())
-        for name in os.listdir(os.path.join(ROOT, "crates")):
+        self.deps = read_lists(os.path.join(ROOT, "crates.txt"))
+        self.own = list(self.deps)
+        shutil.copy(os.path.join(ROOT, "crates.txt"), work)
+        for name in self.own:
             shutil.copytree(os.path.join(ROOT, "crates", name, "src"), os.path.join(self.crates, name, "src"))
 
     def reached(self, name):
@@ -63,19 +29,6 @@ class Sources:
                     found.append(dep)
                     todo.append(dep)
         return found
-
-    def file(self, name, file):
-        own = os.path.join(self.crates, name, "src", file + ".rt")
-        return own if os.path.exists(own) else os.path.join(KIT, "libs", name, "src", file + ".rt")
-
-    def words(self, name, file):
-        """What the kit's compiler is told of a crate: its root, and the root of each library that it reaches, with those that this one names."""
-        words = [self.file(name, file), "--crate-name", name, "--lib", "std:=" + self.file("std", "lib")]
-        for lib in self.reached(name):
-            if lib != "std":
-                used = ["std"] + [dep for dep in self.deps[lib] if dep != "std"]
-                words += ["--lib", "%s:%s=%s" % (lib, ",".join(used), self.file(lib, "lib"))]
-        return words
 
 
 # A run is (program, what runs, input, expected output).
@@ -106,51 +59,49 @@ def longer_runs():
 
 
 class Programs:
-    """Case programs, compiled at a level, and what each must write to what input."""
+    """Case programs, and what each must write to what input; what is compiled runs with checks, for so many seconds at most."""
 
-    def __init__(self, sources, runs, level):
-        self.sources, self.runs = sources, runs
-        self.tools = os.path.join(sources.work, "toolchain%d" % level)
-        self.program = os.path.join(sources.work, "program%d" % level)
-        toolchain(self.tools, 0, level, LINKER % (OWN, self.program))
+    def __init__(self, sources, runs, seconds):
+        self.sources, self.seconds, self.runs = sources, seconds, {}
+        for program, run, given, expected in runs:
+            self.runs.setdefault(program, []).append((run, given, expected))
 
-    def compile(self, name):
-        """Compiles a program; None, or what is wrong with it."""
-        if os.path.exists(self.program):
-            os.remove(self.program)
-        words = [CASES, "--toolchain", self.tools, "--stdin", "/dev/null", *self.sources.words(name, "main")]
-        done = subprocess.run(words, stdout=subprocess.PIPE, stderr=subprocess.STDOUT)
-        return None if os.path.exists(self.program) else done.stdout.decode(errors="replace").strip().split("\n")[0]
-
-    def differs(self, given, expected):
-        """The first line that is not the expected one, or None."""
-        with open(os.path.join(self.sources.work, "given"), "wb") as file:
-            file.write(given)
-        with open(os.path.join(self.sources.work, "given"), "rb") as file, subprocess.Popen([*RUNS, self.program], stdin=file, stdout=subprocess.PIPE) as run:
-            limit = threading.Timer(300, run.kill)
-            limit.start()
-            try:
-                for line in expected.splitlines(True):
-                    if run.stdout.readline() != line:
-                        run.kill()
-                        return line.decode(errors="replace").split(":")[0].strip()
-                return None if run.stdout.read() == b"" and run.wait() == 0 else "its end"
-            finally:
-                limit.cancel()
+    def tried(self, program, runs):
+        """What `rt try` says of each run, by its number; None, with what it says, where the program is not compiled."""
+        folder = os.path.join(self.sources.work, "cases")
+        shutil.rmtree(folder, ignore_errors=True)
+        os.makedirs(folder)
+        for number, (_, given, expected) in enumerate(runs):
+            for name, text in ("c%d" % number, given), ("c%d.stdout" % number, expected):
+                with open(os.path.join(folder, name), "wb") as file:
+                    file.write(text)
+        words = ["rt", "try", "--cases", folder, "--seconds", str(self.seconds)]
+        done = subprocess.run(words, cwd=os.path.join(self.sources.crates, program), stdin=subprocess.DEVNULL, stdout=subprocess.PIPE, stderr=subprocess.STDOUT)
+        said = done.stdout.decode(errors="replace")
+        found = {int(number): what for number, what in re.findall(r"^case=c(\d+) (.*)$", said, re.M)}
+        return (found if len(found) == len(runs) else None), said
 
     def first_notice(self, files):
         """(what runs, its line) of the first run that notices a change of these files of crates; None if none does."""
         changed = {file.split("/")[0] for file in files}
-        compiled = None
-        for program, run, given, expected in self.runs:
+        for program, runs in self.runs.items():
             if not changed & {program, *self.sources.reached(program)}:
                 continue
-            if compiled != program:
-                wrong = self.compile(program)
-                if wrong:
-                    return ("NOT COMPILED", wrong) if "not lowered" in wrong else (run, wrong)
-                compiled = program
-            line = self.differs(given, expected)
-            if line is not None:
-                return run, line
+            found, said = self.tried(program, runs)
+            if found is None:
+                return "NOT COMPILED", (re.findall(r"^.*\berror\b.*$", said, re.M) or said.strip().split("\n")[-1:])[0][:160].replace("|", "/")
+            for number, (run, _, expected) in enumerate(runs):
+                if "output=differs" in found[number]:
+                    return run, differing(said, number, expected)
+                if "run=ended status=0" not in found[number]:
+                    return run, found[number]
         return None
+
+
+def differing(said, number, expected):
+    """The label of the first line that is not the expected one."""
+    at = re.search(r"differs from `c%d\.stdout`: at byte (\d+)" % number, said)
+    if not at or int(at[1]) > len(expected):
+        return "its end"
+    start = expected.rfind(b"\n", 0, int(at[1]) - 1) + 1
+    return expected[start:].split(b"\n")[0].decode(errors="replace").split(":")[0].strip()

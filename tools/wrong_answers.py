@@ -3,25 +3,24 @@
 
 An edit may hold several wrong answers, each headed by a comment with its name, so that one check of the crate tries them all. Each changes parts of its
 own (crate_text: a function, a definition), and has a witness: a function or law that rests on what it changes and on nothing that another wrong answer of
-the edit changes. So where the prover refuses the witness by itself, it refuses this wrong answer. `rt ci` asks only that the edit as a whole be refused;
-this program reads what the prover said of it.
+the edit changes. So where the prover refuses the witness by itself, it refuses this wrong answer. `rt ci` asks only that the edit as a whole be refused, and
+keeps of what the prover said no more than a line; this program has `rt check` say all of it.
 
     wrong_answers.py check           after `rt ci`: each wrong answer has a witness that was refused by itself, at a false fact (prover_log)
+    wrong_answers.py try CRATE...    the same for these crates alone, each edit tried anew, over the libraries that stand in crates/*/out
     wrong_answers.py pack CRATE...   put wrong answers together in as few edits as have witnesses for all
-    wrong_answers.py try CRATE...    the edits of these crates alone, over the libraries in target/, and `check` of them
     wrong_answers.py list            crate, edit, name and changed part of every wrong answer
     wrong_answers.py lacking         public functions with fewer than two wrong answers in their own text or in the definitions that their promises name
 """
 import collections
 import os
 import re
-import shutil
-import subprocess
 import sys
 
-from crate_text import Crate, contract, listed_crates
+import tried_edits
+from crate_text import Crate, Part, contract, listed_crates
 from edits import changed, edits, keeps_shape, label_of, read_edit, together_in_text, write_edit
-from prover_log import refusals
+from prover_log import Refusal, refusals
 
 # The five slips that the specification lists: each is an edit of its own.
 SLIPS = {
@@ -31,50 +30,48 @@ SLIPS = {
 # ---- after the gate
 
 def witness(crate, wrong, wrongs, refused):
-    """A refusal that is this wrong answer's alone, at a false fact if there is one; None where there is none."""
+    """A refusal that is this wrong answer's alone; None where there is none."""
     mine = changed(crate, wrong)
     others = set().union(*(changed(crate, w) for w in wrongs if w is not wrong))
     found = [r for r in refused if (mine & seen_by(crate, r.part)) and not others & seen_by(crate, r.part)]
-    return max(found, key=lambda r: r.false, default=None)
+    return next(iter(found), None)
 
 
 def seen_by(crate, part):
     return crate.rests(part) | {part}
 
 
-def check(names, target='target'):
-    bad, tried = [], 0
+def check(names, anew=False):
+    record, found, bad, tried = tried_edits.read(), {}, [], 0
     for name in names:
         crate = Crate(name)
-        for path in edits(name):
-            wrongs, label = read_edit(path), label_of(path)
-            log = f'{target}/must-fail/{name}/{label}/.log'
-            refused = refusals(crate, open(log, errors='replace').read()) if os.path.exists(log) else []
-            for wrong in wrongs:
-                tried += 1
-                seen = witness(crate, wrong, wrongs, refused)
-                said = 'nothing was refused by itself' if not seen else '' if seen.false else f'{seen.part.name}: {seen.said[:200]}'
-                said = said or ('' if keeps_shape(crate, wrong) else 'it changes the shape of the code, so its proof does not fit')
-                if said:
-                    bad.append(f'{name}/{label}: {wrong.name}: {said}')
+        sums = {path: tried_edits.stands_on(crate, path) for path in edits(name)}
+        found.update({path: record[path][1] for path, said in sums.items() if not anew and record.get(path, ('',))[0] == said})
+        left = [path for path in sums if path not in found]
+        tried += len(left)
+        for path, log in tried_edits.logs(name, left) if left else ():
+            found[path] = [(r.part.file, r.part.name, r.said) for r in refusals(crate, log) if r.false]
+            record[path] = sums[path], found[path]
+            if anew:
+                tried_edits.write(record)
+        bad += [line for path in sums for line in not_refused(crate, path, found[path])]
     for line in bad:
         print('tools/wrong_answers.py: not refused at a false fact:', line)
     if bad:
         sys.exit(1)
-    print(f'tools/wrong_answers.py: {tried} wrong answers, each refused by itself at a false fact')
+    wrongs = sum(len(read_edit(path)) for path in found)
+    print(f'tools/wrong_answers.py: {wrongs} wrong answers, each refused by itself at a false fact; {tried} of the {len(found)} edits were tried now, what the others stand on is as {tried_edits.RECORD} has it')
 
 
-def try_edits(names):
-    """Runs the edits of these crates alone, in target/try: `rt must-fail` would run those of all that they rest on too."""
-    room = 'target/try'
-    shutil.rmtree(room, ignore_errors=True)
-    for one in os.listdir('crates'):
-        shutil.copytree(f'crates/{one}', f'{room}/crates/{one}', ignore=None if one in names else shutil.ignore_patterns('must-fail'))
-    shutil.copy('crates.txt', room)
-    for part in 'rlib', 'stamp':
-        shutil.copytree(f'target/{part}', f'{room}/target/{part}')
-    subprocess.run(['rt', 'must-fail', *names], cwd=room)
-    check(names, f'{room}/target')
+def not_refused(crate, path, found):
+    """What is wrong with the wrong answers of an edit of which the prover refused these parts, (file, name, what it said), at false facts."""
+    wrongs = read_edit(path)
+    refused = [Refusal(Part(file, name), True, said) for file, name, said in found]
+    for wrong in wrongs:
+        said = '' if witness(crate, wrong, wrongs, refused) else 'nothing was refused by itself'
+        said = said or ('' if keeps_shape(crate, wrong) else 'it changes the shape of the code, so its proof does not fit')
+        if said:
+            yield f'{crate.name}/{label_of(path)}: {wrong.name}: {said}'
 
 
 # ---- putting wrong answers together
@@ -171,6 +168,6 @@ if __name__ == '__main__':
         for one in names:
             pack(one)
     elif command == ['try'] and names:
-        try_edits(names)
+        check(names, anew=True)
     else:
         sys.exit(__doc__)

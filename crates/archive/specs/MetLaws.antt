@@ -78,7 +78,8 @@ image x = mapped real holding Works holds real-holding words x
 
 image-held : image system ≡ held_system
 image-held =
-    ap (λ (l : List ℕ). from holding (record { board = (lent_with fresh_converter).board; samples = l; eeprom = (lent_with fresh_converter).eeprom })) queue-clear
+    ap (λ (l : List ℕ). from holding (record { board = (lent_with fresh_converter).board; samples = l; eeprom = (lent_with fresh_converter).eeprom }))
+    queue-clear
 
 pub after-held : (r : Run) → image (after real words system r) ≡ after holding words held_system r
 after-held r =

@@ -18,7 +18,8 @@ use Rattle.archive_turns.specs.Machine.{View}
 use Rattle.archive_demand.specs.World.{World, conversion_end, din_pins, latch-level, port_pins, tick, transfer-end, event_in}
 use Rattle.archive_demand.specs.Laws.{starting, ending, clken_written, low_written, high_written}
 use Rattle.archive_demand.specs.Laws.{Happens, quiet, trigger, end, Serves, Polls, Looks, Fetches, Laws}
-use Rattle.archive_demand.specs.Small.{small, small_step, small_begins, small_ends, edge_begins, written, flag_byte, fifo_byte, ad_byte, fetched, fetched_answer}
+use Rattle.archive_demand.specs.Small.{small, small_step, small_begins, small_ends, edge_begins, written, flag_byte, fifo_byte, ad_byte, fetched}
+use Rattle.archive_demand.specs.Small.{fetched_answer}
 
 -- ---- a small board works while it holds at most 512 samples
 pub record SmallWorks (v : View) : Type 0 where

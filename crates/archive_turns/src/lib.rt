@@ -1,6 +1,7 @@
 // One turn of the collector on the bus of a board (the specification, "The collector"; "a collector driving it through bus accesses"): the
 // access that the collector names is made as an event of the board, and the board's answer is handed to the collector.
 #![tactic(auto)]
+
 ghost use Rattle.std.specs.Prelude.{◌≡◌};
 ghost use Rattle.archive_turns.specs.Turn.{event_of, brought_by, unturned, taken_by};
 ghost use Rattle.archive_turns.specs.Real.{as_struct, Left, lent_turn};

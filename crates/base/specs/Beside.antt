@@ -1,7 +1,8 @@
 -- Numbers side by side in one number, each in a place of its own, the first in the lowest bits. The code tests several fields of a record at
 -- once: it puts them side by side, and none of the bits that no number within its range has may be set in what comes out.
 use Rattle.std.specs.Prelude.{◌≡◌, refl, Bool, true, false, ◌&&◌, List, [], ◌∷◌, ℕ, zero, suc, ◌+◌, ◌*◌, ◌-◌, ◌^◌, ◌/◌, ◌<◌, eqb, leb}
-use Rattle.std.proofs.Common.{◌∙◌, mod-eq_of_lt, div-lt_iff_lt-mul, suc-mul, zero-mul, zero-add, div-add-mod', mod-lt, pow_pos, pow-add, arith, ne_eqb, leb-true, leb-false}
+use Rattle.std.proofs.Common.{◌∙◌, mod-eq_of_lt, div-lt_iff_lt-mul, suc-mul, zero-mul, zero-add, div-add-mod', mod-lt, pow_pos, pow-add, arith, ne_eqb}
+use Rattle.std.proofs.Common.{leb-true, leb-false}
 use Rattle.std.proofs.Math.Nat.{div-eq_of_lt}
 use Rattle.std.specs.Int.Bits.{bit_and}
 use Rattle.std.proofs.lemmas.Nat.{and_block}

@@ -1,6 +1,7 @@
 // What all crates share stands in specs/: choices by a test, the fields of a byte, rows of tests, numbers side by side. The functions make a bit of
 // a byte that is read, and put two numbers side by side into one of twice the width, the first in its low bits.
 #![tactic(auto)]
+
 ghost use Rattle.std.specs.Prelude.{◌≡◌, ◌+◌, ◌*◌, ◌≤◌};
 ghost use Rattle.base.specs.Weights.{weight_of};
 

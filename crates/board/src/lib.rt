@@ -1,6 +1,7 @@
 // The board: one record by value, two lent memories, one event at a time. `step` answers every event, from whatever record, memories and
 // numbers come in; each kind of event has a step of its own; `advance` makes many ticks in one call.
 #![tactic(auto)]
+
 ghost use Rattle.std.specs.Prelude.{◌≡◌};
 ghost use Rattle.machine_record.specs.Fresh.{fresh_board};
 ghost use Rattle.board_step.specs.Step.{step_of, memory_after, eeprom_after};

@@ -1,5 +1,6 @@
 // What can happen to a board, and what it answers (the specification, "What is delivered").
 #![tactic(auto)]
+
 pub use ports::Port;
 
 // The levels of DIN3-0, in bits 3-0.

@@ -98,7 +98,8 @@ module _ (b : Board) (p : ℕ) where
   -- ---- any event
   pub acted-placed : (o : OldestSample) (e : List ℕ) (ev : Event)
       → acted (placed b p) o e ev ≡ record { board = placed (acted b o e ev).board p; answer = (acted b o e ev).answer; effect = (acted b o e ev).effect }
-  unfolding acted din_moved din0_clocked din3_triggered din_set latch_set port_set dividers_ticked counter0_ticked counter1_ticked outputs_ticked ticked timer_moved
+  unfolding acted din_moved din0_clocked din3_triggered din_set latch_set port_set dividers_ticked counter0_ticked counter1_ticked outputs_ticked ticked
+      timer_moved
   acted-placed o e (WriteByte n v) = rw ((row-placed (place_of b.registers.page n)).written v)
   acted-placed o e (ReadByte n) = let row = row-placed (place_of b.registers.page n) in rw (row.read, row.shown o)
   acted-placed o e (ReadWord n) = refl

@@ -79,7 +79,8 @@ pub record Moves (b c : Board) (t : ℕ) : Type 0 where
   pub thousand : c.clocks.thousand ≡ moved_on t b.clocks.thousand 999
 
 pub dividers_move : (b : Board) (o : OldestSample) (e : List ℕ) (ev : Event) → Moves b (acted b o e ev).board (ticks_of ev)
-unfolding acted din_set din3_triggered din0_clocked din_moved timer_moved latch_set port_set ticked outputs_ticked counter1_ticked counter0_ticked dividers_ticked
+unfolding acted din_set din3_triggered din0_clocked din_moved timer_moved latch_set port_set ticked outputs_ticked counter1_ticked counter0_ticked
+    dividers_ticked
 dividers_move b o e (WriteByte n v) = let f = write-free b (place_of b.registers.page n) v in record { hundred = f.hundred; thousand = f.thousand }
 dividers_move b o e (ReadByte n) = let f = read-leaves b (place_of b.registers.page n) in record { hundred = f.hundred; thousand = f.thousand }
 dividers_move b o e (ReadWord n) = record { hundred = refl; thousand = refl }
@@ -147,7 +148,8 @@ less_none {x} {y} h = omega arith
 -- a tick takes one off it, and no other event changes it
 pub busy-moves : (b : Board) (o : OldestSample) (e : List ℕ) (ev : Event) → resets ev ≡ false → is_load ev ≡ false
     → (acted b o e ev).board.outputs.busy ≡ b.outputs.busy - ticks_of ev
-unfolding acted resets din_set din3_triggered din0_clocked din_moved timer_moved latch_set port_set ticked outputs_ticked counter1_ticked counter0_ticked dividers_ticked
+unfolding acted resets din_set din3_triggered din0_clocked din_moved timer_moved latch_set port_set ticked outputs_ticked counter1_ticked counter0_ticked
+    dividers_ticked
 busy-moves b o e (WriteByte n v) r l = less_none (write-stays b n v l (under_and (eqb n 8) (is_reset v) r))
 busy-moves b o e (ReadByte n) r l = less_none (read-leaves b (place_of b.registers.page n)).busy
 busy-moves b o e (ReadWord n) r l = less_none refl

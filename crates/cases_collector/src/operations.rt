@@ -1,8 +1,7 @@
-// The operations of a case. Settings: lLLHH low and high, jHH jumpers, gHH range code, kHHHH clock, mHHHH poll limit. s starts with them.
-// The record, as a host could lend it: i puts the settings into it; pHH phase, cHH next channel, oHHHH polls, dHHHH reads left.
-// q shows the access; aHHHH brings a number and shows what is handed over, e brings nothing; nCCCCHHHH brings a number CCCC times and shows how many
-// samples and gaps there were before the last, and the last; h shows the record, f whether it is fit.
-// zLLHHNNNN shows how many of N samples are whole scans of the channels from L to H, and the last of them.
+// The operations of a case. Settings: lLLHH low and high, jHH jumpers, gHH range code, kHHHH clock, mHHHH poll limit. s starts with them. The record, as a host
+// could lend it: i puts the settings into it; pHH phase, cHH next channel, oHHHH polls, dHHHH reads left. q shows the access; aHHHH brings a number and shows
+// what is handed over, e brings nothing; nCCCCHHHH brings a number CCCC times and shows how many samples and gaps came before the last, and the last; h shows
+// the record, f whether it is fit. zLLHHNNNN shows how many of N samples are whole scans of channels L to H, and the last of them.
 use super::shows;
 use collector::{BusAnswer, Collector, Handed, Settings, Started};
 use std::io;
@@ -105,7 +104,6 @@ fn start(rt: &impl Print, b: CollectorBench) -> io::Result<CollectorBench> {
     }
 }
 
-// Brings an answer.
 fn answer(rt: &impl Print, b: CollectorBench, brought: BusAnswer) -> io::Result<CollectorBench> {
     let s = b.settings;
     let c = b.collector;

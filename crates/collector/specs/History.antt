@@ -73,7 +73,8 @@ module _ (s : Settings) (f : FitSettings s) where
       let w = fit-after r in (reply-holds (after_answers (first_record s) r) w.phase a _ (reply (after_answers (first_record s) r) a w)).0 ∙ settings-after r
 
   reported : (r : Brought) (a : BusAnswer)
-      → (underway (phase_of (after_answers (first_record s) r).phase) ≡ true → (after_answers (first_record s) r).polls ≡ polls_since (history_of (first_record s) r))
+      → (underway (phase_of (after_answers (first_record s) r).phase) ≡ true
+      → (after_answers (first_record s) r).polls ≡ polls_since (history_of (first_record s) r))
       → (replied (after_answers (first_record s) r) a).polls ≡ polls_since (history_of (first_record s) (r ▸ a))
   unfolding polls_since history_of
   reported r a h =

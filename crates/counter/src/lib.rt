@@ -1,5 +1,6 @@
 // One counter of the 82C54, with the names that others use of it: control words and modes, counts by bytes, the counting element, the counter.
 #![tactic(auto)]
+
 pub use counter_bytes::Bus;
 pub use counter_element::Count;
 pub use counter_modes::control::refuses_word;

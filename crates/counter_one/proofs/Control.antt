@@ -1,5 +1,6 @@
 -- The control bits that set up mode 0 and those that set up mode 2, as the code lists them, and that no others do. Assumes nothing.
-use Rattle.std.proofs.Common.{◌≡◌, ℕ, zero, suc, ◌<◌, Bool, true, false, not, ◌&&◌, ◌||◌, eqb, ltb, List, [], ◌∷◌, refl, ⊎_elim, arith, ltb-true, ne_eqb, eqb-true}
+use Rattle.std.proofs.Common.{◌≡◌, ℕ, zero, suc, ◌<◌, Bool, true, false, not, ◌&&◌, ◌||◌, eqb, ltb, List, [], ◌∷◌, refl, ⊎_elim, arith, ltb-true, ne_eqb}
+use Rattle.std.proofs.Common.{eqb-true}
 use mathlib.Core.Path.{subst⁻¹}
 use borrow.Author.Tests.{eqb-false}
 use mir.Val.{has_key}

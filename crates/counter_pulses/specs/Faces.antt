@@ -68,7 +68,8 @@ module _ (c : Count) (g half : Bool) (z : c.waiting ≡ 0) (f : Face) where
   reloads o true = ap₂ (λ (x y : ℕ). record { register = c.register; element = c.register; out = 1; waiting = x; loaded = y }) (sym z) (sym o)
   reloads o false = refl
 
-  face_taken : (r n : Bool) → pulse_counts (mode_by r) g half c ≡ n → pulse_taken (mode_by r) g false half (at_face c f) ≡ at_face c (counted_as n r c.register f)
+  face_taken : (r n : Bool) → pulse_counts (mode_by r) g half c ≡ n
+      → pulse_taken (mode_by r) g false half (at_face c f) ≡ at_face c (counted_as n r c.register f)
   unfolding counted_by
   face_taken true true e =
       let o = eqb-true c.loaded 1 (both (on c.loaded) _ e).0 in

@@ -2,6 +2,7 @@
 // numbers. Here are the events: each answers memories of the wrong lengths at once (refusal 2), or calls the function of its kind with the record by
 // value and stores what comes back; `dmm32_advance` calls that of many ticks.
 #![tactic(auto)]
+
 ghost use Rattle.board_step.specs.Lent.{Stepped};
 ghost use Rattle.board_advance.specs.Lent.{Moved};
 ghost use Rattle.numbers_answers.specs.Packed.{answer_number};

@@ -2,6 +2,7 @@
 // lent board, and the tally by value. It stands in a library of its own: in that of cowriestep each event's function is the only one that calls the step of
 // its kind, which the compiler puts into it whole.
 #![tactic(auto)]
+
 ghost use Rattle.std.specs.Prelude.{◌≡◌};
 ghost use Rattle.board_step.specs.Lent.{Stepped};
 ghost use Rattle.numbers_answers.specs.Packed.{answer_number};

@@ -1,6 +1,7 @@
 // What hosts link that let a collector of theirs drive the board (include/cowriestep.h): one turn of it over a lent board. It stands in a library of its
 // own: in that of cowriestep each event's function is the only one that calls the step of its kind, which the compiler puts into it whole.
 #![tactic(auto)]
+
 ghost use Rattle.archive_turns.specs.Lent.{Driven};
 ghost use Rattle.numbers_collector.specs.Collecting.{taken_answer};
 

@@ -1,6 +1,7 @@
 // The board as a hypervisor lends it: the record and both memories are the caller's, and it finds them updated. `step` calls `board::step` with the
 // record by value and stores what comes back, and `advance` likewise. What is refused leaves all three as they were.
 #![tactic(auto)]
+
 ghost use Rattle.board_step.specs.Lent.{Stepped, itself};
 ghost use Rattle.board_advance.specs.Lent.{Moved};
 

@@ -1,5 +1,6 @@
 // The board's record, with the names that others use of it: the record; its gates and a timer that moves; a tick, pins, resets; what a host has to act on.
 #![tactic(auto)]
+
 pub use machine_clock::{gates_at, gates_of, move_timer_by, put_timer};
 pub use machine_due::{due, irq};
 pub use machine_pins::set_din;

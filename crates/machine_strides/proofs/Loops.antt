@@ -70,7 +70,8 @@ module _ (c : ℕ) (g : Gates) (h0 h2 : Bool) (n : ℕ) (l : Clocks) where
     pub stops : h0 && f0 || h2 && f2 ≡ true → record { clocks = o; done = i + 1; fell0 = f0; fell2 = f2 } ≡ stride_of c g h0 h2 n l
     stops h =
         let s : stride_from c g h0 h2 (suc (n - (i + 1))) i m
-        ≡ record { clocks = clocks_ticked c g m; done = suc i; fell0 = falls0 m (clocks_ticked c g m); fell2 = falls2 m (clocks_ticked c g m) } = rw (hears h) in
+        ≡ record { clocks = clocks_ticked c g m; done = suc i; fell0 = falls0 m (clocks_ticked c g m); fell2 = falls2 m (clocks_ticked c g m) } =
+        rw (hears h) in
         rw (one_more, f0≡, f2≡, o≡) (sym (ap (λ (k : ℕ). stride_from c g h0 h2 k i m) one_left ∙ s) ∙ at.left)
 
   -- ---- some ticks one by one

@@ -101,11 +101,11 @@ seen : {X : Type 0} (look : Board → X) (es : List Event) (ess : List (List Eve
 seen look es ess = runs.shown-held look _ _ ess (runs.events_hold fresh runs.fresh_held es runs.fresh_holds)
 
 pub marked : Marked
-unfolding start_of start_refusal command word_refused setup_of counted_by commanded pulsed gate_moved counter_read byte_refused byte_written moved clocked_if gates_moved
-    control_word_refused control_word_written count_refused count_written timer_read pushed pushed_to popped_from flag_bits next_channel timer_moved dividers_ticked
-    counter0_ticked
-    counter1_ticked outputs_ticked ticked counting_written board_reset requests_cleared page_set misc_written place_of byte_at after_read read_effect written_at write_effect
-    write_checks read_checks acted eeprom_acted event_checks ran held_answer happened times conversions beginnings round
+unfolding start_of start_refusal command word_refused setup_of counted_by commanded pulsed gate_moved counter_read byte_refused byte_written moved clocked_if
+    gates_moved control_word_refused control_word_written count_refused count_written timer_read pushed pushed_to popped_from flag_bits next_channel
+    timer_moved dividers_ticked counter0_ticked counter1_ticked outputs_ticked ticked counting_written board_reset requests_cleared page_set misc_written
+    place_of byte_at after_read read_effect written_at write_effect write_checks read_checks acted eeprom_acted event_checks ran held_answer happened times
+    conversions beginnings round
 marked =
     record {
       fresh-works = runs.fresh-works;

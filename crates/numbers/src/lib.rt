@@ -1,5 +1,6 @@
 // The board by value, with its answers as plain numbers, for hosts in other languages (include/cowriestep.h): so that the exported functions only pass them on.
 #![tactic(auto)]
+
 ghost use Rattle.std.specs.Prelude.{◌≡◌};
 ghost use Rattle.board_stores.specs.Stores.{fresh_memory, fresh_eeprom, stores_answer};
 ghost use Rattle.numbers_answers.specs.Packed.{answer_number};

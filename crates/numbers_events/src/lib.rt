@@ -1,5 +1,6 @@
 // Any event as one record of numbers, for hosts in other languages (include/cowriestep.h), and the step that it makes, by value.
 #![tactic(auto)]
+
 ghost use Rattle.std.specs.Prelude.{◌≡◌};
 ghost use Rattle.board_step.specs.Step.{step_of, memory_after, eeprom_after};
 ghost use Rattle.numbers.specs.Outcomes.{numbered_of};

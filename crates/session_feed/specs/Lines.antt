@@ -134,7 +134,8 @@ unfolding conversation
 no_lines t = refl
 
 text_line : (t : Talk) (p text : List ℕ) → t.reading ≡ read_from Blank p
-    → session_text (line_done t) text ≡ conversation (line_done t) (joined [] (text_lines text)) → session_text t (10 ∷ text) ≡ conversation t (p ∷ text_lines text)
+    → session_text (line_done t) text ≡ conversation (line_done t) (joined [] (text_lines text))
+    → session_text t (10 ∷ text) ≡ conversation t (p ∷ text_lines text)
 unfolding conversation
 text_line t p text h i =
     text-newline t text

@@ -99,7 +99,8 @@ module _ (b : Board) (n v : ℕ) where
   pub write-taken : counts_of b (WriteByte n v) ≡ taken b (WriteByte n v)
   write-taken = by (eqb (refusal (event_checks b (WriteByte n v))) 0) refl
     where
-      by : (t : Bool) → eqb (refusal (event_checks b (WriteByte n v))) 0 ≡ t → counts_of b (WriteByte n v) ≡ (if t then counts_of b (WriteByte n v) else no_counts)
+      by : (t : Bool) → eqb (refusal (event_checks b (WriteByte n v))) 0 ≡ t
+          → counts_of b (WriteByte n v) ≡ (if t then counts_of b (WriteByte n v) else no_counts)
       by true h = refl
       by false h = none_written (refused h)
 

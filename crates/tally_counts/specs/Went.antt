@@ -69,7 +69,8 @@ module _ (h : Held) (l : length h.samples ≡ h.board.fifo.held) where
   went-held ev = by (eqb (event_number h ev) 0)
     where
       by : (t : Bool)
-          → (if◌then◌else◌ {A = Held} t (record { board = (ran_held h ev).board; samples = (ran_held h ev).samples; eeprom = (ran_held h ev).eeprom }) h).samples
+          → (if◌then◌else◌ {A = Held} t (record { board = (ran_held h ev).board; samples = (ran_held h ev).samples; eeprom = (ran_held h ev).eeprom })
+          h).samples
           ≡ left_by (if t then counts_of h.board ev else no_counts) ev h.samples
       by true = ap (λ (x : Effect). samples_after x h.samples) (effect_of_lem h.board (oldest_of h.samples) h.eeprom ev) ∙ by-effect ev
       by false = as_before h.samples

@@ -127,7 +127,8 @@ module _ (m : Mode) (v : ℕ) (half : Bool) where
   count_held : (t : Timer) (x s : Select) (b : ℕ) (g : Gates) → HeldAt s t → HeldAt s (after_write t (count_written t x b g))
   unfolding count_written
   count_held t x s b g p =
-      by_choice (λ (w : Written). HeldAt s (after_write t w)) (count_refused t x b) {x = Refused 7} {y = Accepted (moved t x (byte_written (counter_of t x) b) g)} p
+      by_choice (λ (w : Written). HeldAt s (after_write t w)) (count_refused t x b) {x = Refused 7}
+      {y = Accepted (moved t x (byte_written (counter_of t x) b) g)} p
       (moved_has (LatchHeld m v half) pulsed-held t x s _ g p (λ e. written_held (counter_of t x) b))
 
   control-held : (t : Timer) (s : Select) (w : ℕ) (g : Gates)

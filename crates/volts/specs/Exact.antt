@@ -1,7 +1,9 @@
 -- No operation of `volts` rounds: each gives exactly a whole number over a power of two (the specification, "The f64 is exactly a whole number
 -- over 2^18"). The scaling by a power of two is a multiplication by its reciprocal, and stands behind one law, `scaled`.
-use Rattle.std.specs.Prelude.{◌≡◌, refl, Bool, true, false, List, [], ◌∷◌, map, ℕ, zero, suc, ◌+◌, ◌*◌, ◌/◌, ◌^◌, ◌≤◌, ◌<◌, eqb, ltb, leb, get_or, ℤ, pos, negsuc, nat_abs, neg_ℤ, ◌+ℤ◌, ◌*ℤ◌, Float}
-use Rattle.std.proofs.Common.{ap, ◌∙◌, mul-pos, mul-one, one-mul, mul-le-mul, zero-lt-suc, lt_irrefl, lt_of_lt_of_le, lt_of_le_of_lt, le_of_lt, arith, eqb-true, leb-true, ltb-true, lit<, lit≤, pow-add, pow_pos}
+use Rattle.std.specs.Prelude.{◌≡◌, refl, Bool, true, false, List, [], ◌∷◌, map, ℕ, zero, suc, ◌+◌, ◌*◌, ◌/◌, ◌^◌, ◌≤◌, ◌<◌, eqb, ltb, leb, get_or, ℤ, pos}
+use Rattle.std.specs.Prelude.{negsuc, nat_abs, neg_ℤ, ◌+ℤ◌, ◌*ℤ◌, Float}
+use Rattle.std.proofs.Common.{ap, ◌∙◌, mul-pos, mul-one, one-mul, mul-le-mul, zero-lt-suc, lt_irrefl, lt_of_lt_of_le, lt_of_le_of_lt, le_of_lt, arith}
+use Rattle.std.proofs.Common.{eqb-true, leb-true, ltb-true, lit<, lit≤, pow-add, pow_pos}
 use Rattle.std.specs.Float.{binary64}
 use Rattle.std.specs.Float.Ieee.{unlike, round, mul, of_int}
 use Rattle.std.specs.Float.Ieee.Exact.{HasValue}

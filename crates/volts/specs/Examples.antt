@@ -30,5 +30,6 @@ refused_13 code = (refl, refl, refl, refl, refl)
 
 -- "Range codes 9 - 11 are equivalent to range codes 0 - 2."
 pub equivalent_ranges : (code : ℤ)
-    → (input_voltage_of code 9 ≡ input_voltage_of code 0) × (input_voltage_of code 10 ≡ input_voltage_of code 1) × (input_voltage_of code 11 ≡ input_voltage_of code 2)
+    → (input_voltage_of code 9 ≡ input_voltage_of code 0) × (input_voltage_of code 10 ≡ input_voltage_of code 1)
+    × (input_voltage_of code 11 ≡ input_voltage_of code 2)
 equivalent_ranges code = (refl, refl, refl)

@@ -1,6 +1,7 @@
 -- The circle of places: read from another place on, it has the same numbers, and a store is a store. Assumes nothing.
 use Rattle.std.specs.Prelude.{◌≡◌, refl, List, [], ◌∷◌, ◌++◌, Bool, true, false, ℕ, suc, ◌+◌, ◌-◌, ◌%◌, ◌≤◌, ◌<◌, length, take, drop, set, replicate, ltb}
-use Rattle.std.proofs.Common.{ap, sym, ◌∙◌, append-nil, add_comm, zero-add, suc-add, arith, length-append, length-drop, take-append-drop, drop_of_length-le, take_at, drop_at, take_all, drop-set-lt, ltb-true, ltb-false}
+use Rattle.std.proofs.Common.{ap, sym, ◌∙◌, append-nil, add_comm, zero-add, suc-add, arith, length-append, length-drop, take-append-drop, drop_of_length-le}
+use Rattle.std.proofs.Common.{take_at, drop_at, take_all, drop-set-lt, ltb-true, ltb-false}
 use Rattle.std.proofs.lemmas.List.{length-replicate, replicate-append-replicate, take-append-le, drop-append-le, set-append_left, take-set-le, drop-set-add}
 use Rattle.std.proofs.Math.Seq.{append_snoc, take-set-lt}
 use Rattle.fifo.specs.Queue.{turned}
