@@ -1,8 +1,7 @@
 -- Where one board shows what another does, the gaps marked in a run of it are those of the other. Laws for MetLaws.antt.
-use Rattle.std.specs.Prelude.{ℕ, ◌+◌, Bool, ◌≡◌}
+use Rattle.std.specs.Prelude.{ℕ, ◌+◌, Bool, ◌≡◌, if◌then◌else◌}
 use Rattle.std.proofs.Math.Path.{refl, ap}
 use Rattle.std.proofs.Common.{◌∙◌}
-use Rattle.base.specs.Choice.{if◌then◌else◌}
 use Rattle.board_events.specs.declared.Answer.{Answer}
 use Rattle.collector_phases.specs.declared.Collector.{Collector}
 use Rattle.collector.specs.Handed.{gap_marked}

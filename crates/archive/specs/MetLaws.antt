@@ -1,8 +1,7 @@
 -- A fresh board with the collector of channels 3 to 5 that has begun, and what an onlooker sees in a run of them, computed in one pass over the board that
 -- keeps its samples as a list. Laws for Met.antt.
-use Rattle.std.specs.Prelude.{ℕ, ◌+◌, List, ◌≡◌, refl}
+use Rattle.std.specs.Prelude.{ℕ, ◌+◌, List, ◌≡◌, refl, if◌then◌else◌}
 use Rattle.std.proofs.Common.{ap, ◌∙◌}
-use Rattle.base.specs.Choice.{if◌then◌else◌}
 use Rattle.fifo.specs.Queue.Laws.{queue-clear}
 use Rattle.converter.specs.Registers.{fresh_converter}
 use Rattle.converter.specs.Working.{fresh-works}

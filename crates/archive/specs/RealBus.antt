@@ -1,11 +1,10 @@
 -- The collector's accesses on the bus of the board of `board::step` (the specification, "Registers" and "The collector").
-use Rattle.std.specs.Prelude.{ℕ, ◌+◌, ◌%◌, ◌≤◌, Bool, List, ◌∷◌, ◌≡◌, eqb, leb, length}
+use Rattle.std.specs.Prelude.{ℕ, ◌+◌, ◌%◌, ◌≤◌, Bool, List, ◌∷◌, ◌≡◌, eqb, leb, length, if◌then◌else◌}
 use Rattle.std.proofs.Math.Bool.{true, false}
 use Rattle.std.proofs.Math.Path.{refl, ap}
 use Rattle.std.proofs.Common.{sym, ◌∙◌, le-ltb, eq-eqb, ne_eqb, leb-true, leb-false}
 use native.Mathlib.Omega.{arith}
 use Rattle.base.specs.Flags.{on}
-use Rattle.base.specs.Choice.{if◌then◌else◌}
 use Rattle.base.specs.Weights.{weight_le}
 use Rattle.base.specs.Shown.{shows}
 use Rattle.fifo.specs.Samples.{oldest_of}

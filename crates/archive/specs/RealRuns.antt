@@ -1,10 +1,9 @@
 -- Runs on the board of `board::step` go by what it holds: they are those of a board that keeps its samples as a list. So they compute.
-use Rattle.std.specs.Prelude.{Bool, true, false, ◌&&◌, ◌≡◌, refl, ℕ, replicate}
+use Rattle.std.specs.Prelude.{Bool, true, false, ◌&&◌, ◌≡◌, refl, ℕ, replicate, if◌then◌else◌}
 use mathlib.Core.List.{List, [], IsPrefix}
 use Rattle.std.proofs.Math.Option.{none}
 use Rattle.std.proofs.Math.Path.{ap}
 use Rattle.std.proofs.Common.{subst, ◌∙◌}
-use Rattle.base.specs.Choice.{if◌then◌else◌}
 use Rattle.fifo.specs.Samples.{pushed}
 use Rattle.fifo.specs.Queue.{layout, empty_fifo, pushed_to, popped_from}
 use Rattle.fifo.specs.Queue.Laws.{queue-clear, clear-works}

@@ -1,9 +1,8 @@
 -- A step of the board of `board::step` as an onlooker sees it: on a working board it shows what the event makes of the record and the
 -- samples held, apart from how the memory keeps them.
-use Rattle.std.specs.Prelude.{ℕ, Bool, true, false, ◌&&◌, ◌≡◌, refl, eqb}
+use Rattle.std.specs.Prelude.{ℕ, Bool, true, false, ◌&&◌, ◌≡◌, refl, eqb, if◌then◌else◌}
 use Rattle.std.proofs.Math.Option.{none}
 use Rattle.std.proofs.Common.{sym, ap, subst, ◌∙◌}
-use Rattle.base.specs.Choice.{if◌then◌else◌}
 use Rattle.board_laws.specs.Held.{Held, event_number, held_answer, happened, held_in, number-working, step-held}
 use Rattle.board_events.specs.declared.Answer.{Answer}
 use Rattle.board_events.specs.declared.Event.{Event}

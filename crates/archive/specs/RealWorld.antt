@@ -1,6 +1,6 @@
 -- The world's events on the board of `board::step` (the specification, "Conversions, edges and requests"): an edge or a tick may begin a
 -- conversion, a conversion's end ends one and may begin the next, and no other event touches conversions or samples.
-use Rattle.std.specs.Prelude.{ℕ, Bool, false, ◌&&◌, ◌≡◌, ℤ, eqb}
+use Rattle.std.specs.Prelude.{ℕ, Bool, false, ◌&&◌, ◌≡◌, ℤ, eqb, if◌then◌else◌}
 use Rattle.std.proofs.Math.Bool.{true, not}
 use Rattle.std.proofs.Math.Option.{none, some}
 use Rattle.std.proofs.Math.Path.{refl, ap}
@@ -8,7 +8,6 @@ use Rattle.std.proofs.Common.{sym, ◌∙◌, SFits}
 use Rattle.std.specs.Int.{w16}
 use Rattle.base.specs.Flags.{on}
 use Rattle.base.specs.Laws.{both, not_true}
-use Rattle.base.specs.Choice.{if◌then◌else◌}
 use Rattle.fifo.specs.Samples.{oldest_of}
 use Rattle.converter.specs.Channels.{external_trigger}
 use Rattle.converter.specs.Begins.{trigger-lost}

@@ -1,9 +1,8 @@
 -- Wrong collectors on the product's own board, and wrong boards, each of which demand 3 rules out by a run.
-use Rattle.std.specs.Prelude.{ℕ, suc, ◌%◌, ◌≡◌, refl, ℤ, pos, eqb, ltb, length, drop}
+use Rattle.std.specs.Prelude.{ℕ, suc, ◌%◌, ◌≡◌, refl, ℤ, pos, eqb, ltb, length, drop, if◌then◌else◌}
 use mathlib.Core.List.{List, [], ◌∷◌, ◌++◌, IsPrefix}
 use Rattle.std.proofs.Math.Option.{Option, none, some}
 use Rattle.std.proofs.Common.{sym, ap, arith}
-use Rattle.base.specs.Choice.{if◌then◌else◌}
 use Rattle.base.specs.Laws.{never}
 use Rattle.converter.specs.Codes.{sample_of}
 use Rattle.converter.specs.Registers.{fresh_converter}

@@ -1,8 +1,7 @@
 -- Samples whose channels follow one another, as the collector counts them. Assumes nothing.
-use Rattle.std.specs.Prelude.{ℕ, ◌+◌, ◌≤◌, Bool, true, false, List, [], ◌∷◌, ◌++◌, ◌≡◌, refl, eqb, leb}
+use Rattle.std.specs.Prelude.{ℕ, ◌+◌, ◌≤◌, Bool, true, false, List, [], ◌∷◌, ◌++◌, ◌≡◌, refl, eqb, leb, if◌then◌else◌}
 use Rattle.std.proofs.Common.{sym, subst, arith}
 use Rattle.std.proofs.lemmas.Bool.{lt-leb}
-use Rattle.base.specs.Choice.{if◌then◌else◌}
 use Rattle.converter.specs.Channels.{next_channel}
 use Rattle.collector_settings.specs.declared.Settings.{Settings}
 use Rattle.samples.specs.declared.Sample.{Sample}

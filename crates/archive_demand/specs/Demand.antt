@@ -3,10 +3,9 @@
 -- channel selected when its conversion began. From the end of the start to a reported gap none is missing, added or out of order, and each look
 -- that finds samples yields the oldest. A look that shows the memory full yields its 512 samples and then the gap. After a gap, the next sample
 -- is the low channel's, as from a fresh start. Triggers and ticks may fall anywhere." With request M-100: "Demands 2 and 3 read with the new answer."
-use Rattle.std.specs.Prelude.{ℕ, ◌≤◌, true, false, ◌≡◌, ℤ, leb, length, take}
+use Rattle.std.specs.Prelude.{ℕ, ◌≤◌, true, false, ◌≡◌, ℤ, leb, length, take, if◌then◌else◌}
 use mathlib.Core.List.{List, [], ◌∷◌, ◌++◌, map, IsPrefix}
 use Rattle.base.specs.Flags.{on}
-use Rattle.base.specs.Choice.{if◌then◌else◌}
 use Rattle.converter.specs.Codes.{code_of}
 use Rattle.collector_phases.specs.declared.Access.{Access}
 use Rattle.collector_phases.specs.declared.Access.TheVariants.{WriteByte, ReadByte, ReadWord, NoAccess}

@@ -1,9 +1,8 @@
 -- What an onlooker writes down, going through a run happening by happening: the conversions begun since the end of the last start, what was
 -- handed over, and how far the limit was kept (condition 3 of acceptance; the specification, "The collector": "For demand 3 a start ends with
 -- its last write, 9←02 or 03").
-use Rattle.std.specs.Prelude.{ℕ, ◌+◌, Bool, true, false, ◌&&◌, ◌||◌, List, [], ◌∷◌, ◌++◌, ℤ, eqb, leb}
+use Rattle.std.specs.Prelude.{ℕ, ◌+◌, Bool, true, false, ◌&&◌, ◌||◌, List, [], ◌∷◌, ◌++◌, ℤ, eqb, leb, if◌then◌else◌}
 use Rattle.std.proofs.Math.Option.{Option, none, some}
-use Rattle.base.specs.Choice.{if◌then◌else◌}
 use Rattle.collector_answers.specs.declared.BusAnswer.{BusAnswer}
 use Rattle.collector_answers.specs.declared.BusAnswer.TheVariants as bus
 use Rattle.collector_phases.specs.declared.Access.{Access}

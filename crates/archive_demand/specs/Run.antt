@@ -1,7 +1,6 @@
 -- A board with a collector alone on its bus, and the runs of the two: a happening is an event of the world, or a turn of the collector. No other
 -- happening makes a bus access, so the collector is alone on the bus.
-use Rattle.std.specs.Prelude.{ℕ, suc, ◌+◌, Bool, false, List, [], ◌++◌}
-use Rattle.base.specs.Choice.{if◌then◌else◌}
+use Rattle.std.specs.Prelude.{ℕ, suc, ◌+◌, Bool, false, List, [], ◌++◌, if◌then◌else◌}
 use Rattle.collector_phases.specs.declared.Collector.{Collector}
 use Rattle.samples.specs.declared.Sample.{Sample}
 use Rattle.collector.specs.Handed.{samples_of, gap_marked}

@@ -1,10 +1,9 @@
 -- A small board, which is its own view (specs/SmallLaws.antt: it obeys the laws of a board). Each DIN event is an edge of the external
 -- trigger, a conversion's end ends the conversion in progress, and of the bus it has the writes of 2, 3, 7 and 9, the reads of 7 and 8, and
 -- the word read. Every other event answers ok and changes nothing; so does a write of 11, since no view shows the range.
-use Rattle.std.specs.Prelude.{ℕ, ◌+◌, ◌%◌, Bool, false, not, ◌&&◌, List, [], ◌∷◌, ℤ, eqb, leb, length}
+use Rattle.std.specs.Prelude.{ℕ, ◌+◌, ◌%◌, Bool, false, not, ◌&&◌, List, [], ◌∷◌, ℤ, eqb, leb, length, if◌then◌else◌}
 use Rattle.std.proofs.Math.Option.{Option, none, some}
 use Rattle.base.specs.Flags.{on}
-use Rattle.base.specs.Choice.{if◌then◌else◌}
 use Rattle.base.specs.Fields.{field}
 use Rattle.base.specs.Weights.{weight_of}
 use Rattle.converter.specs.Channels.{end_starts}

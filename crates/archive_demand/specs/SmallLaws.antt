@@ -1,9 +1,8 @@
 -- The small board obeys the laws of a board: they ask no more of one than the collector and its onlooker see.
-use Rattle.std.specs.Prelude.{ℕ, ◌+◌, ◌%◌, ◌≤◌, Bool, true, false, not, ◌&&◌, List, [], ◌∷◌, ◌++◌, ◌≡◌, refl, ℤ, eqb, ltb, leb, length}
+use Rattle.std.specs.Prelude.{ℕ, ◌+◌, ◌%◌, ◌≤◌, Bool, true, false, not, ◌&&◌, List, [], ◌∷◌, ◌++◌, ◌≡◌, refl, ℤ, eqb, ltb, leb, length, if◌then◌else◌}
 use Rattle.std.proofs.Math.Option.{none, some}
 use Rattle.std.proofs.Common.{ap, arith, le-ltb, ltb-true, length-append}
 use Rattle.base.specs.Flags.{on}
-use Rattle.base.specs.Choice.{if◌then◌else◌}
 use Rattle.base.specs.Laws.{by_choice}
 use Rattle.base.specs.Weights.{weight_le}
 use Rattle.base.specs.Shown.{shows}

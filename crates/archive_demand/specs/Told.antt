@@ -1,7 +1,6 @@
 -- The phase of a fit collector, told by its access. Assumes nothing.
-use Rattle.std.specs.Prelude.{ℕ, zero, suc, Bool, true, false, ◌&&◌, ◌≡◌, refl, eqb}
+use Rattle.std.specs.Prelude.{ℕ, zero, suc, Bool, true, false, ◌&&◌, ◌≡◌, refl, eqb, if◌then◌else◌}
 use Rattle.std.proofs.Common.{sym, ◌∙◌, subst}
-use Rattle.base.specs.Choice.{if◌then◌else◌}
 use Rattle.collector_phases.specs.declared.Access.{Access}
 use Rattle.collector_phases.specs.declared.Access.TheVariants.{WriteByte, ReadByte, ReadWord, NoAccess}
 use Rattle.collector_phases.specs.declared.Collector.{Collector}

@@ -1,10 +1,9 @@
 -- What a look yields, and what follows it. Assumes nothing.
-use Rattle.std.specs.Prelude.{ℕ, suc, ◌+◌, ◌≤◌, ◌<◌, Bool, List, [], ◌∷◌, ◌++◌, ◌≡◌, ℤ, length}
+use Rattle.std.specs.Prelude.{ℕ, suc, ◌+◌, ◌≤◌, ◌<◌, Bool, List, [], ◌∷◌, ◌++◌, ◌≡◌, ℤ, length, if◌then◌else◌}
 use Rattle.std.proofs.Math.Bool.{true, false}
 use Rattle.std.proofs.Common.{append_assoc, append-nil, sym, ◌∙◌, ap, subst, arith, length-append}
 use Rattle.std.proofs.Math.Path.{refl}
 use borrow.Author.Tests.{leb-true, leb-false}
-use Rattle.base.specs.Choice.{if◌then◌else◌}
 use Rattle.base.specs.Laws.{never}
 use Rattle.converter.specs.Codes.{code_of}
 use Rattle.board_events.specs.declared.Event.TheVariants as event

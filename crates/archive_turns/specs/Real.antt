@@ -1,7 +1,6 @@
 -- The product's own board: the definitions that `board::step` promises; and a turn of the collector on it.
-use Rattle.std.specs.Prelude.{ℕ, ◌≡◌, Bool, ◌&&◌, List, eqb}
+use Rattle.std.specs.Prelude.{ℕ, ◌≡◌, Bool, ◌&&◌, List, eqb, if◌then◌else◌}
 use Rattle.std.proofs.Math.Option.{none}
-use Rattle.base.specs.Choice.{if◌then◌else◌}
 use Rattle.fifo.specs.Queue.{queue}
 use Rattle.machine_record.specs.declared.Board.{Board}
 use Rattle.board_step.specs.States.{State, refusal_at, answer_at, after_event}

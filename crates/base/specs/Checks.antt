@@ -1,6 +1,5 @@
 -- Refusals as a row of checks, each a test and the number that it refuses by: the first that holds is the answer.
-use Rattle.std.specs.Prelude.{Bool, List, [], ◌∷◌, ℕ}
-use Rattle.base.specs.Choice.{if◌then◌else◌}
+use Rattle.std.specs.Prelude.{Bool, List, [], ◌∷◌, ℕ, if◌then◌else◌}
 
 pub record Check : Type 0 where
   pub holds : Bool

@@ -1,7 +1,6 @@
 -- Laws of choices and of rows of tests that proofs cite.
-use Rattle.std.specs.Prelude.{◌≡◌, refl, Bool, true, false, not, ◌&&◌, ◌||◌, ℕ, ◌≤◌}
+use Rattle.std.specs.Prelude.{◌≡◌, refl, Bool, true, false, not, ◌&&◌, ◌||◌, ℕ, ◌≤◌, if◌then◌else◌}
 use Rattle.std.proofs.Common.{arith}
-use Rattle.base.specs.Choice.{if◌then◌else◌}
 
 -- what both arms have, the choice has
 pub by_choice : {A : Type 0} (P : A → Type 0) (b : Bool) {x y : A} → P x → P y → P (if b then x else y)

@@ -1,4 +1,3 @@
-pub mod Choice
 pub mod Fields
 pub mod Tests
 pub mod Laws

@@ -1,7 +1,6 @@
 -- Laws of a row of checks: nothing refuses where no check holds, and only there.
-use Rattle.std.specs.Prelude.{◌≡◌, refl, Bool, true, false, List, [], ◌∷◌, ℕ, ◌≤◌}
+use Rattle.std.specs.Prelude.{◌≡◌, refl, Bool, true, false, List, [], ◌∷◌, ℕ, ◌≤◌, if◌then◌else◌}
 use Rattle.std.proofs.Common.{arith}
-use Rattle.base.specs.Choice.{if◌then◌else◌}
 use Rattle.base.specs.Checks.{Check, refusal}
 
 -- no check of the row holds

@@ -1,7 +1,6 @@
 -- A bit of a byte that is read (manual, chapter 6: the read map).
-use Rattle.std.specs.Prelude.{Bool, true, false, ℕ, ◌≤◌}
+use Rattle.std.specs.Prelude.{Bool, true, false, ℕ, ◌≤◌, if◌then◌else◌}
 use Rattle.std.proofs.Common.{arith}
-use Rattle.base.specs.Choice.{if◌then◌else◌}
 
 -- the weight w of a bit that is set, else 0
 abbrev pub weight_of : Bool → ℕ → ℕ

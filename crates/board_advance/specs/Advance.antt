@@ -1,7 +1,6 @@
 -- Ticks one after another, each an event of its own, as far as the first with which the host has something to do. The specification, "Conversions, edges
 -- and requests": a tick may begin a conversion or set a request flag.
-use Rattle.std.specs.Prelude.{ℕ, zero, suc, List, eqb}
-use Rattle.base.specs.Choice.{if◌then◌else◌}
+use Rattle.std.specs.Prelude.{ℕ, zero, suc, List, eqb, if◌then◌else◌}
 use Rattle.machine_record.specs.declared.Board.{Board}
 use Rattle.board_step.specs.News.{news}
 use Rattle.board_step.specs.Step.{refusal_of, step_of, memory_after, eeprom_after}

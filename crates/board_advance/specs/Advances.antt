@@ -1,8 +1,7 @@
 -- What `advanced_of` says, in terms of events: k ticks were done and led to this record, none before the k-th brought news, and k is all of them or the k-th
 -- did; of a board that is not refused both memories stay as they were, and every tick is answered by done.
-use Rattle.std.specs.Prelude.{ℕ, zero, suc, ◌+◌, ◌≤◌, ◌<◌, ◌≡◌, refl, Bool, true, false, List}
+use Rattle.std.specs.Prelude.{ℕ, zero, suc, ◌+◌, ◌≤◌, ◌<◌, ◌≡◌, refl, Bool, true, false, List, if◌then◌else◌}
 use Rattle.std.proofs.Common.{arith, sym, ap, ◌∙◌, subst, eq-eqb, ne_eqb}
-use Rattle.base.specs.Choice.{if◌then◌else◌}
 use Rattle.base.specs.Laws.{by-test}
 use Rattle.machine_record.specs.declared.Board.{Board}
 use Rattle.board_step.specs.Step.{refusal_of}

@@ -1,9 +1,8 @@
 -- Ticks of a board by strides of its clocks: before the last tick nothing but clocks and DACBUSY moves, so that what the last one brings is put in at the end.
-use Rattle.std.specs.Prelude.{ℕ, zero, suc, ◌+◌, ◌-◌, ◌≤◌, ◌≡◌, refl, Bool, true, false, not, ◌&&◌, ◌||◌, List}
+use Rattle.std.specs.Prelude.{ℕ, zero, suc, ◌+◌, ◌-◌, ◌≤◌, ◌≡◌, refl, Bool, true, false, not, ◌&&◌, ◌||◌, List, if◌then◌else◌}
 use native.Mathlib.Omega.{arith}
 use Rattle.std.proofs.Common.{sym, ◌∙◌, subst}
 use Rattle.std.proofs.Math.Path.{ap}
-use Rattle.base.specs.Choice.{if◌then◌else◌}
 use Rattle.base.specs.Flags.{on, flag, on-flag, flag-on}
 use Rattle.base.specs.Laws.{both, neither}
 use Rattle.converter.specs.Channels.{started, triggered, internal_trigger, internal_triggered}

@@ -1,9 +1,8 @@
 -- When a conversion is in progress after an event, what abandons one, and where its sample goes (the specification, "Conversions, edges and
 -- requests", and "8 write").
-use Rattle.std.specs.Prelude.{ℕ, ◌≡◌, refl, Bool, true, false, not, ◌&&◌, ◌||◌, List, [], ◌∷◌, ◌++◌, ℤ, eqb}
+use Rattle.std.specs.Prelude.{ℕ, ◌≡◌, refl, Bool, true, false, not, ◌&&◌, ◌||◌, List, [], ◌∷◌, ◌++◌, ℤ, eqb, if◌then◌else◌}
 use Rattle.std.proofs.Common.{sym, ap, ◌∙◌, eqb-true}
 use Rattle.base.specs.Flags.{on}
-use Rattle.base.specs.Choice.{if◌then◌else◌}
 use Rattle.fifo.specs.Samples.{pushed}
 use Rattle.fifo.specs.Queue.{queue}
 use Rattle.fifo.specs.Queue.Laws.{length_queue}

@@ -1,7 +1,6 @@
 -- The answer of a step in the specification's numbers: the number that it is refused by, and the value that a guest is shown.
-use Rattle.std.specs.Prelude.{ℕ, ◌≡◌, refl, Bool, true, false, List, eqb}
+use Rattle.std.specs.Prelude.{ℕ, ◌≡◌, refl, Bool, true, false, List, eqb, if◌then◌else◌}
 use Rattle.std.proofs.Common.{sym, ◌∙◌, eqb-true}
-use Rattle.base.specs.Choice.{if◌then◌else◌}
 use Rattle.fifo.specs.Samples.{oldest_of}
 use Rattle.fifo.specs.Queue.{queue}
 use Rattle.fifo.specs.declared.OldestSample.{OldestSample}

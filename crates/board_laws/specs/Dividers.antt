@@ -1,9 +1,8 @@
 -- The dividers and the clocks that they make, from power-up on (manual, Base+10 and 17.1). The specification, "Conversions, edges and requests": "The Base+10
 -- page gives FREQ12 and FREQ0; the 100 kHz and 10 kHz dividers run free from power-up and clock on every 100th and 1,000th tick."
-use Rattle.std.specs.Prelude.{ℕ, ◌+◌, ◌%◌, ◌≡◌, Bool, not, ◌&&◌, ◌||◌, List, replicate, eqb}
+use Rattle.std.specs.Prelude.{ℕ, ◌+◌, ◌%◌, ◌≡◌, Bool, not, ◌&&◌, ◌||◌, List, replicate, eqb, if◌then◌else◌}
 use Rattle.std.proofs.Common.{ap, ◌∙◌, zero-add}
 use Rattle.base.specs.Fields.{bit}
-use Rattle.base.specs.Choice.{if◌then◌else◌}
 use Rattle.counter_one.specs.Counter.{pulsed}
 use Rattle.machine_clock.specs.Clock.{gates}
 use Rattle.machine_tick.specs.Tick.{clock0, clock1}

@@ -1,7 +1,6 @@
 -- A board that keeps its samples in the earlier layout (fifo/specs/Earlier.antt): the rules of one event, where all but the layout is as now. It
 -- serves the theorem of Same alone.
-use Rattle.std.specs.Prelude.{ℕ, Bool, not, List, [], ◌∷◌, eqb}
-use Rattle.base.specs.Choice.{if◌then◌else◌}
+use Rattle.std.specs.Prelude.{ℕ, Bool, not, List, [], ◌∷◌, eqb, if◌then◌else◌}
 use Rattle.base.specs.Tests.{all}
 use Rattle.base.specs.Checks.{◌refuses◌, refusal}
 use Rattle.fifo.specs.Samples.{oldest_of}

@@ -1,8 +1,7 @@
 -- An event of a working board over its record, the samples held and the EEPROM, apart from how the memory keeps the samples: what theorems
 -- about runs of events go by. `step-held` says that the step does just this.
-use Rattle.std.specs.Prelude.{ℕ, ◌≡◌, refl, Bool, true, false, List, length, eqb}
+use Rattle.std.specs.Prelude.{ℕ, ◌≡◌, refl, Bool, true, false, List, length, eqb, if◌then◌else◌}
 use Rattle.std.proofs.Common.{ap, ◌∙◌, eqb-true, eq-eqb}
-use Rattle.base.specs.Choice.{if◌then◌else◌}
 use Rattle.base.specs.Checks.{refusal}
 use Rattle.fifo.specs.Queue.{queue}
 use Rattle.machine_record.specs.declared.Board.{Board}

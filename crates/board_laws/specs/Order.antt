@@ -1,8 +1,7 @@
 -- The check order. The specification, "Refusal numbers": "Check order: 2, 1, then 3 or 5, then 4 or 10, then 6, 9, 8, 7." Whatever the board, the
 -- memories and the event, the checks stand in that order, so a refusal is one of 1 to 10.
-use Rattle.std.specs.Prelude.{ℕ, ◌≤◌, ◌≡◌, refl, Bool, true, false, ◌&&◌, List, [], ◌∷◌, eqb, ltb, leb}
+use Rattle.std.specs.Prelude.{ℕ, ◌≤◌, ◌≡◌, refl, Bool, true, false, ◌&&◌, List, [], ◌∷◌, eqb, ltb, leb, if◌then◌else◌}
 use Rattle.std.proofs.Common.{arith, ne_eqb, leb-true, leb-false, ltb-true}
-use Rattle.base.specs.Choice.{if◌then◌else◌}
 use Rattle.base.specs.Checks.{Check, refusal}
 use Rattle.base.specs.Laws.{choice_le, both}
 use Rattle.machine_record.specs.declared.Board.{Board}

@@ -1,8 +1,7 @@
 -- A board with another place of its oldest sample: no register shows the place, and no event but by the sample memory itself moves it. Assumes nothing.
-use Rattle.std.specs.Prelude.{ℕ, ◌+◌, ◌≡◌, Bool, List, ltb}
+use Rattle.std.specs.Prelude.{ℕ, ◌+◌, ◌≡◌, Bool, List, ltb, if◌then◌else◌}
 use Rattle.std.proofs.Math.Path.{refl}
 use Rattle.std.proofs.Math.Bool.{true, false}
-use Rattle.base.specs.Choice.{if◌then◌else◌}
 use Rattle.base.specs.Fields.{bit}
 use Rattle.fifo.specs.Queue.{pushed_to}
 use Rattle.fifo.specs.Flags.{flag_bits}

@@ -2,13 +2,12 @@
 -- answers the same." A board of the earlier layout (EarlierBoard) and one whose sample memory is the circle go side by side through any row of
 -- events, refused ones among them. `Same` says of the two that all of their records but the place of the oldest sample is equal, that both hold the
 -- same samples, oldest first, that their EEPROMs are equal, of any length, and that each is a working board of its layout.
-use Rattle.std.specs.Prelude.{ℕ, ◌≡◌, true, false, List, [], ◌∷◌, replicate, eqb}
+use Rattle.std.specs.Prelude.{ℕ, ◌≡◌, true, false, List, [], ◌∷◌, replicate, eqb, if◌then◌else◌}
 use Rattle.std.proofs.Math.Path.{refl}
 use Rattle.std.proofs.Common.{ap, sym, subst, ◌∙◌, eq-eqb}
 use Rattle.std.proofs.Math.Bool.{Bool}
 use Rattle.std.proofs.lemmas.Bool.{eqb-false}
 use Rattle.std.proofs.lemmas.List.{length-replicate}
-use Rattle.base.specs.Choice.{if◌then◌else◌}
 use Rattle.base.specs.Tests.{each, every}
 use Rattle.fifo.specs.Earlier.{earlier_queue, earlier_tests, is_earlier_fifo}
 use Rattle.fifo.specs.Queue.{queue, layout, empty_fifo}

@@ -1,10 +1,9 @@
 -- What the theorem of Same rests on: both boards refuse alike, and what an event leaves of them is alike again. Assumes nothing.
-use Rattle.std.specs.Prelude.{ℕ, zero, ◌+◌, ◌-◌, ◌≤◌, ◌≡◌, refl, Bool, true, false, List, [], ◌∷◌, ◌++◌, length, drop, replicate, ltb, eqb}
+use Rattle.std.specs.Prelude.{ℕ, zero, ◌+◌, ◌-◌, ◌≤◌, ◌≡◌, refl, Bool, true, false, List, [], ◌∷◌, ◌++◌, length, drop, replicate, ltb, eqb, if◌then◌else◌}
 use Rattle.std.proofs.Math.Path.{ap, sym}
 use Rattle.std.proofs.Common.{subst, ◌∙◌, arith, length-append, take_at, drop_at}
 use borrow.Author.Tests.{eq-eqb, le-leb}
 use Rattle.std.proofs.lemmas.List.{length-replicate}
-use Rattle.base.specs.Choice.{if◌then◌else◌}
 use Rattle.base.specs.Flags.{on}
 use Rattle.base.specs.Tests.{each, every}
 use Rattle.fifo.specs.Samples.{oldest_of}

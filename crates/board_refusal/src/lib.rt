@@ -1,5 +1,6 @@
 // The working board: specs/Working.antt. Which events are refused, and by which number, is defined in specs/Refusals.antt.
 #![tactic(auto)]
+
 ghost use Rattle.std.specs.Prelude.{◌≡◌};
 ghost use Rattle.board_refusal.specs.Working.{is_working_board};
 

@@ -1,8 +1,7 @@
 // The events that do not come over the bus: a conversion ends, pins take new levels, the clock ticks, a transfer ends. Each makes its checks in their order,
 // and then does what the event does (specs/Act.antt of board_step). `c` is the record as it becomes.
 #![tactic(auto)]
-ghost use Rattle.std.specs.Prelude.{◌≡◌};
-ghost use Rattle.base.specs.Choice.{if◌then◌else◌};
+ghost use Rattle.std.specs.Prelude.{◌≡◌, if◌then◌else◌};
 ghost use Rattle.counter_one.specs.Counter.{pulsed};
 ghost use Rattle.counter_one.specs.Working.{WorkingCounter};
 ghost use Rattle.board_step.specs.Step.{step_of, memory_after, eeprom_after};

@@ -1,9 +1,8 @@
 -- The sample memory after an event: what an effect leaves is a working board's, and holds the samples that the definition says; which reads leave it;
 -- that a word read changes nothing else; and that it tells every sample from none.
-use Rattle.std.specs.Prelude.{◌≡◌, Bool, true, false, List, ℕ, eqb}
+use Rattle.std.specs.Prelude.{◌≡◌, Bool, true, false, List, ℕ, eqb, if◌then◌else◌}
 use Rattle.std.proofs.Math.Path.{refl}
 use Rattle.std.proofs.Common.{sym, ap, subst, ◌∙◌}
-use Rattle.base.specs.Choice.{if◌then◌else◌}
 use Rattle.fifo.specs.Queue.{queue, layout, WorkingFifo}
 use Rattle.fifo.specs.Queue.Laws.{queue_push, push_works, queue_pop, pop_works, queue-clear, clear-works}
 use Rattle.fifo.specs.declared.Fifo.{Fifo}

@@ -1,7 +1,6 @@
 -- One event, over the record, the samples held and the EEPROM; then over the memories. The specification, "What is delivered", and condition 1
 -- of acceptance: each event gets an answer, and what is refused leaves board record, sample memory and EEPROM as they were.
-use Rattle.std.specs.Prelude.{ℕ, ◌≡◌, List, [], eqb}
-use Rattle.base.specs.Choice.{if◌then◌else◌}
+use Rattle.std.specs.Prelude.{ℕ, ◌≡◌, List, [], eqb, if◌then◌else◌}
 use Rattle.base.specs.Checks.{refusal}
 use Rattle.fifo.specs.Samples.{oldest_of, pushed, popped}
 use Rattle.fifo.specs.Queue.{queue, layout, empty_fifo, pushed_to, popped_from}

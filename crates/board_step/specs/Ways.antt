@@ -1,10 +1,9 @@
 -- The ways out of an event's step: what its answer, record and memories are where a check refuses it, and where none does. Laws for the proofs of the
 -- functions that make a step, over plain values.
-use Rattle.std.specs.Prelude.{◌≡◌, Bool, true, not, List, ◌∷◌, ℕ, length, eqb}
+use Rattle.std.specs.Prelude.{◌≡◌, Bool, true, not, List, ◌∷◌, ℕ, length, eqb, if◌then◌else◌}
 use Rattle.std.proofs.Math.Path.{sym}
 use Rattle.std.proofs.Common.{◌∙◌, arith}
 use Rattle.std.proofs.Math.Bool.{false}
-use Rattle.base.specs.Choice.{if◌then◌else◌}
 use Rattle.base.specs.Checks.{◌refuses◌, refusal}
 use Rattle.base.specs.Laws.{not_not, not_true}
 use Rattle.base.specs.Unrefused.{passes}

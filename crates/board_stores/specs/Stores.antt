@@ -1,6 +1,5 @@
 -- The lengths of the stores, and fresh ones: 512 and 128 zeros. The specification, "What is delivered": "EEPROM and TrimDAC 0", no sample held.
-use Rattle.std.specs.Prelude.{ℕ, Bool, not, ◌||◌, List, [], length, replicate, eqb}
-use Rattle.base.specs.Choice.{if◌then◌else◌}
+use Rattle.std.specs.Prelude.{ℕ, Bool, not, ◌||◌, List, [], length, replicate, eqb, if◌then◌else◌}
 use Rattle.fifo.specs.Queue.{layout, empty_fifo}
 use Rattle.board_events.specs.declared.Answer.{Answer}
 use Rattle.board_events.specs.declared.Answer.TheVariants.{Done, Refused}

@@ -1,6 +1,5 @@
 -- What an offset names (manual, chapter 6, register map; chapter 8 for the pages).
-use Rattle.std.specs.Prelude.{ℕ, eqb, leb}
-use Rattle.base.specs.Choice.{if◌then◌else◌}
+use Rattle.std.specs.Prelude.{ℕ, eqb, leb, if◌then◌else◌}
 use Rattle.ports.specs.declared.Port.TheVariants.{PortA, PortB, PortC}
 use Rattle.timer.specs.declared.Select.TheVariants.{Counter0, Counter1, Counter2}
 use Rattle.bus.specs.declared.Place.{Place}

@@ -1,7 +1,6 @@
 -- What a register is, and the words in which the rows of Registers are written. A word `to..` is given what the byte makes of that part of the board;
 -- the other parts stay.
-use Rattle.std.specs.Prelude.{ℕ, Bool, true, List, [], ◌∷◌}
-use Rattle.base.specs.Choice.{if◌then◌else◌}
+use Rattle.std.specs.Prelude.{ℕ, Bool, true, List, [], ◌∷◌, if◌then◌else◌}
 use Rattle.base.specs.Checks.{Check, ◌refuses◌}
 use Rattle.fifo.specs.declared.OldestSample.{OldestSample}
 use Rattle.converter.specs.declared.channels.Converter.{Converter}

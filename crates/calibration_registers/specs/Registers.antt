@@ -1,8 +1,7 @@
 -- The calibration registers (manual, 8.4, and page 3 of the register map in chapter 6; the specification, "Registers", page 3, and
 -- refusals 6, 8, 9, 10): writes, reads, what is refused, and resets.
-use Rattle.std.specs.Prelude.{Bool, not, ◌&&◌, ◌||◌, [], ◌∷◌, ℕ, ◌+◌, ◌%◌, eqb}
+use Rattle.std.specs.Prelude.{Bool, not, ◌&&◌, ◌||◌, [], ◌∷◌, ℕ, ◌+◌, ◌%◌, eqb, if◌then◌else◌}
 use Rattle.base.specs.Flags.{on, flag}
-use Rattle.base.specs.Choice.{if◌then◌else◌}
 use Rattle.base.specs.Fields.{bit, field}
 use Rattle.base.specs.Weights.{weight_of}
 use Rattle.calibration_registers.specs.declared.Calibration.{Calibration}

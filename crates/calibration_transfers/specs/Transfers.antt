@@ -1,7 +1,6 @@
 -- The transfers to and from EEPROM and TrimDAC (manual, 8.4, Base+14 write; chapter 15; the specification, "Registers", page 3):
 -- what runs, and what is busy meanwhile.
-use Rattle.std.specs.Prelude.{Bool, true, false, ℕ, eqb}
-use Rattle.base.specs.Choice.{if◌then◌else◌}
+use Rattle.std.specs.Prelude.{Bool, true, false, ℕ, eqb, if◌then◌else◌}
 use Rattle.calibration_transfers.specs.declared.Transfer.{Transfer}
 use Rattle.calibration_transfers.specs.declared.Transfer.TheVariants.{NoTransfer, EepromRead, EepromWrite, RunCal, TrimDac}
 

@@ -1,6 +1,5 @@
 -- Ports (manual, chapter 16) by number, as the lines of the programs give them. Any other number is the last one.
-use Rattle.std.specs.Prelude.{ℕ, eqb}
-use Rattle.base.specs.Choice.{if◌then◌else◌}
+use Rattle.std.specs.Prelude.{ℕ, eqb, if◌then◌else◌}
 use Rattle.ports.specs.declared.Port.{Port}
 use Rattle.ports.specs.declared.Port.TheVariants.{PortA, PortB, PortC}
 

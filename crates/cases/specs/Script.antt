@@ -1,6 +1,5 @@
 -- The line language of the programs that run named cases: `name: c14 w003 k0 o`, one case a line.
-use Rattle.std.specs.Prelude.{ℕ, ◌+◌, ◌*◌, ◌%◌, Bool, true, false, not, ◌&&◌, ◌||◌, eqb, leb}
-use Rattle.base.specs.Choice.{if◌then◌else◌}
+use Rattle.std.specs.Prelude.{ℕ, ◌+◌, ◌*◌, ◌%◌, Bool, true, false, not, ◌&&◌, ◌||◌, eqb, leb, if◌then◌else◌}
 use Rattle.cases.specs.declared.script.Script.{Script}
 use Rattle.cases.specs.declared.script.Step.{Step}
 

@@ -1,7 +1,6 @@
 -- What damages a flag of a board's record, by numbers 24 to 49 hex in the order of the record (struct dmm32_board of include/cowriestep.h):
 -- the flag of that number becomes 2, and all else stays. 4A and 4B damage the place of the oldest sample. Another number leaves the whole record.
-use Rattle.std.specs.Prelude.{ℕ, ◌-◌, eqb, ltb}
-use Rattle.base.specs.Choice.{if◌then◌else◌}
+use Rattle.std.specs.Prelude.{ℕ, ◌-◌, eqb, ltb, if◌then◌else◌}
 use Rattle.calibration_registers.specs.declared.Calibration.{Calibration}
 use Rattle.converter.specs.declared.channels.Converter.{Converter}
 use Rattle.counter_one.specs.declared.Counter.{Counter}

@@ -1,7 +1,6 @@
 -- What spoils a board's record, by numbers 05 to 4B hex: 05 to 23 stand here, those of the flags and of the place of the oldest sample in SpoiledFlags. Every
 -- spoil acts on the record as it stands and leaves all that it does not name; another number leaves the whole record.
-use Rattle.std.specs.Prelude.{ℕ, eqb, ltb}
-use Rattle.base.specs.Choice.{if◌then◌else◌}
+use Rattle.std.specs.Prelude.{ℕ, eqb, ltb, if◌then◌else◌}
 use Rattle.calibration_registers.specs.declared.Calibration.{Calibration}
 use Rattle.converter.specs.declared.channels.Converter.{Converter}
 use Rattle.counter_one.specs.Counter.{unprogrammed, commanded}

@@ -1,9 +1,8 @@
 -- No spoiled board is a working one, whatever it was before and whatever its sample memory holds: each number from 05 to 23 hex puts
 -- something out of its range, each from 24 to 49 makes a flag 2, and 4A and 4B leave no place of the oldest sample that a working board has.
-use Rattle.std.specs.Prelude.{ℕ, ◌+◌, ◌-◌, ◌≤◌, ◌<◌, ◌≡◌, refl, Bool, true, false, List, eqb, ltb, leb}
+use Rattle.std.specs.Prelude.{ℕ, ◌+◌, ◌-◌, ◌≤◌, ◌<◌, ◌≡◌, refl, Bool, true, false, List, eqb, ltb, leb, if◌then◌else◌}
 use Rattle.std.proofs.Common.{sym, subst, arith, ltb-true, ltb-false, leb-true, leb-false}
 use Rattle.std.proofs.lemmas.Bool.{eqb-false}
-use Rattle.base.specs.Choice.{if◌then◌else◌}
 use Rattle.counter_modes.specs.Control.{command, setup_of}
 use Rattle.counter_one.specs.Counter.{unprogrammed, commanded}
 use Rattle.counter_one.specs.Working.{WorkingCounter}

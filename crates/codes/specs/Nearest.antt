@@ -1,7 +1,6 @@
 -- The closed formula is the nearest code, halves upward, and the only one; and no whole number is nearer (manual, chapter 14.1).
-use Rattle.std.specs.Prelude.{◌≡◌, refl, Bool, true, false, ℕ, suc, ◌+◌, ◌-◌, ◌*◌, ◌≤◌, ◌<◌, leb, ltb, ℤ, pos, ◌+ℤ◌}
+use Rattle.std.specs.Prelude.{◌≡◌, refl, Bool, true, false, ℕ, suc, ◌+◌, ◌-◌, ◌*◌, ◌≤◌, ◌<◌, leb, ltb, ℤ, pos, ◌+ℤ◌, if◌then◌else◌}
 use Rattle.std.proofs.Common.{sym, ◌∙◌, mul_left_comm, suc-mul, div-add-mod', mod-lt, le-div_iff_mul-le, div-lt_iff_lt-mul, le_antisymm, le_of_suc-le-suc, mul-le-mul_right, le_refl, arith, le-leb, ltb-true, ltb-false}
-use Rattle.base.specs.Choice.{if◌then◌else◌}
 use Rattle.codes.specs.Output.{Nearest, nearest, given, refused, as_number, span, above, AnswersCode}
 
 doubled : (code swing : ℕ) → code * (2 * swing) ≡ 2 * (code * swing)

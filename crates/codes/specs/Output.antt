@@ -1,6 +1,5 @@
 -- The code that puts out a voltage (manual, chapters 13 and 14.1 to 14.3; the specification, "Volts").
-use Rattle.std.specs.Prelude.{◌≡◌, List, [], ◌∷◌, ℕ, ◌+◌, ◌*◌, ◌/◌, ◌%◌, ◌≤◌, ◌<◌, leb, get_or, ℤ, pos, negsuc, ◌+ℤ◌}
-use Rattle.base.specs.Choice.{if◌then◌else◌}
+use Rattle.std.specs.Prelude.{◌≡◌, List, [], ◌∷◌, ℕ, ◌+◌, ◌*◌, ◌/◌, ◌%◌, ◌≤◌, ◌<◌, leb, get_or, ℤ, pos, negsuc, ◌+ℤ◌, if◌then◌else◌}
 
 -- An answer: a number, or a refusal by its number.
 pub data OutputAnswer : Type 0 where

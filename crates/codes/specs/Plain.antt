@@ -1,7 +1,6 @@
 -- One number carries a code or a refusal, and neither can be taken for the other (the specification, "offered to C hosts as plain numbers").
-use Rattle.std.specs.Prelude.{◌≡◌, refl, Bool, true, false, ℕ, ◌≤◌, leb, ℤ, pos, negsuc, ◌+ℤ◌}
+use Rattle.std.specs.Prelude.{◌≡◌, refl, Bool, true, false, ℕ, ◌≤◌, leb, ℤ, pos, negsuc, ◌+ℤ◌, if◌then◌else◌}
 use Rattle.std.proofs.Common.{ap, arith, leb-true}
-use Rattle.base.specs.Choice.{if◌then◌else◌}
 use Rattle.codes.specs.Output.{OutputAnswer, given, refused, as_number, Span, span, unknown, nearest, above, output_in, output_of, span_of, on_channel}
 use Rattle.codes.specs.Output.{bytes_of}
 

@@ -1,7 +1,6 @@
 -- What the paper's words say of the collector's answers, by cases: the number of a refusal (0 where there is none; specs/Numbers.antt says
 -- which), the samples handed over, the gap, the end of a start. (The specification, "The collector" and "Refusal numbers".)
-use Rattle.std.specs.Prelude.{ℕ, ◌≡◌, refl, Bool, true, false, ◌&&◌, ◌||◌, List, [], ◌∷◌, eqb}
-use Rattle.base.specs.Choice.{if◌then◌else◌}
+use Rattle.std.specs.Prelude.{ℕ, ◌≡◌, refl, Bool, true, false, ◌&&◌, ◌||◌, List, [], ◌∷◌, eqb, if◌then◌else◌}
 use Rattle.samples.specs.declared.Sample.{Sample}
 use Rattle.collector_records.specs.declared.Started.{Started}
 use Rattle.collector_records.specs.declared.Started.TheVariants.{Begun, NotBegun}

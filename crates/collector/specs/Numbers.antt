@@ -1,8 +1,7 @@
 -- The collector's answers in the specification's numbers: of a start, of a question for the access and of an answer it is the number of the
 -- first check that holds, 0 where none does. And a start ends with its last write.
-use Rattle.std.specs.Prelude.{ℕ, ◌≡◌, refl, Bool, true, false, not, ◌&&◌, List, [], ◌∷◌, eqb, leb}
+use Rattle.std.specs.Prelude.{ℕ, ◌≡◌, refl, Bool, true, false, not, ◌&&◌, List, [], ◌∷◌, eqb, leb, if◌then◌else◌}
 use Rattle.std.proofs.Common.{sym, eqb-true}
-use Rattle.base.specs.Choice.{if◌then◌else◌}
 use Rattle.base.specs.Checks.{Check, ◌refuses◌, refusal}
 use Rattle.base.specs.Laws.{by_choice}
 use Rattle.collector_settings.specs.declared.Settings.{Settings}

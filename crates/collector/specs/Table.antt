@@ -3,9 +3,8 @@
 -- reads handed over, a gap marked with the last, start again"; of a look, request M-108: "goes by EF first, FF next, and reads nothing else"; of a
 -- word read, request M-100: told "nothing", "it keeps its record"). It covers every phase of a fit collector and whatever came of its access, so of
 -- a look each of the 256 bytes; and none handles its first look and idles afterwards.
-use Rattle.std.specs.Prelude.{ℕ, ◌≡◌, refl, Bool, true, false, ◌&&◌, List, [], ◌∷◌, eqb, leb}
+use Rattle.std.specs.Prelude.{ℕ, ◌≡◌, refl, Bool, true, false, ◌&&◌, List, [], ◌∷◌, eqb, leb, if◌then◌else◌}
 use Rattle.std.proofs.Common.{sym, ap, ◌∙◌}
-use Rattle.base.specs.Choice.{if◌then◌else◌}
 use Rattle.base.specs.Laws.{never}
 use Rattle.collector_settings.specs.declared.Settings.{Settings}
 use Rattle.collector_phases.specs.declared.Collector.{Collector}

@@ -1,7 +1,6 @@
 -- The phases of the collector, and the one bus access that each names (the specification, "The collector": "Its record holds its phase,
 -- and each phase names one bus access").
-use Rattle.std.specs.Prelude.{ℕ, Bool, true, false, eqb}
-use Rattle.base.specs.Choice.{if◌then◌else◌}
+use Rattle.std.specs.Prelude.{ℕ, Bool, true, false, eqb, if◌then◌else◌}
 use Rattle.collector_settings.specs.declared.Settings.{Settings}
 use Rattle.collector_phases.specs.declared.Phase.{Phase}
 use Rattle.collector_phases.specs.declared.Phase.TheVariants.{Stop, Poll, Range, Clear, Low, High, Go, Look, Take, Drain, Stuck, Unknown}

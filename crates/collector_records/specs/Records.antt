@@ -1,6 +1,5 @@
 -- The collector's record: as a start makes it, and as an answer changes it (the specification, "The collector").
-use Rattle.std.specs.Prelude.{ℕ, ◌+◌, eqb}
-use Rattle.base.specs.Choice.{if◌then◌else◌}
+use Rattle.std.specs.Prelude.{ℕ, ◌+◌, eqb, if◌then◌else◌}
 use Rattle.collector_settings.specs.declared.Settings.{Settings}
 use Rattle.collector_settings.specs.Settings.{start_refusal}
 use Rattle.collector_phases.specs.declared.Collector.{Collector}

@@ -1,9 +1,8 @@
 -- The test of refusal 12 is right: with low to high in order and within 31, it holds where some channel of the range is lacking, and only
 -- there.
-use Rattle.std.specs.Prelude.{ℕ, ◌≤◌, ◌<◌, ◌≡◌, refl, Bool, true, false, ◌&&◌, ◌||◌, eqb, leb, ltb}
+use Rattle.std.specs.Prelude.{ℕ, ◌≤◌, ◌<◌, ◌≡◌, refl, Bool, true, false, ◌&&◌, ◌||◌, eqb, leb, ltb, if◌then◌else◌}
 use Rattle.std.proofs.Common.{sym, arith, ltb-true, ltb-false, leb-true, leb-false, le-leb, le-ltb}
 use Rattle.std.proofs.lemmas.Bool.{lt-leb}
-use Rattle.base.specs.Choice.{if◌then◌else◌}
 use Rattle.base.specs.Laws.{never, neither, under_and}
 use Rattle.collector_settings.specs.Settings.{has_channel, lacking}
 

@@ -1,7 +1,6 @@
 -- What the collector does with what came of its access (the specification, "The collector", and refusals 1, 15 and 17; request M-100: "The
 -- collector can now be told "nothing" in a take or a drain .. If it is told so all the same, it keeps its record", refusal 20).
-use Rattle.std.specs.Prelude.{ℕ, ◌&&◌, eqb}
-use Rattle.base.specs.Choice.{if◌then◌else◌}
+use Rattle.std.specs.Prelude.{ℕ, ◌&&◌, eqb, if◌then◌else◌}
 use Rattle.base.specs.Checks.{refusal}
 use Rattle.collector_phases.specs.declared.Collector.{Collector}
 use Rattle.collector_phases.specs.declared.Phase.{Phase}

@@ -1,7 +1,6 @@
 -- What a start is given, and what of it is refused (the specification, "Refusal numbers", 11 to 14, and "The collector": channels by
 -- jumper; manual, 5.4, the table of A/D channel modes).
-use Rattle.std.specs.Prelude.{ℕ, Bool, true, false, ◌&&◌, ◌||◌, List, [], ◌∷◌, eqb, leb, ltb}
-use Rattle.base.specs.Choice.{if◌then◌else◌}
+use Rattle.std.specs.Prelude.{ℕ, Bool, true, false, ◌&&◌, ◌||◌, List, [], ◌∷◌, eqb, leb, ltb, if◌then◌else◌}
 use Rattle.samples.specs.Refused.{bad_range, code_refused}
 use Rattle.base.specs.Checks.{Check, ◌refuses◌, refusal}
 use Rattle.collector_settings.specs.declared.Settings.{Settings}

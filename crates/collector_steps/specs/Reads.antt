@@ -1,7 +1,6 @@
 -- What the answer to a read leads to: of a poll, of a look, of a word read (the specification, "The collector"; request M-108: "goes by EF
 -- first, FF next, and reads nothing else").
-use Rattle.std.specs.Prelude.{ℕ, ◌-◌, leb}
-use Rattle.base.specs.Choice.{if◌then◌else◌}
+use Rattle.std.specs.Prelude.{ℕ, ◌-◌, leb, if◌then◌else◌}
 use Rattle.collector_phases.specs.declared.Collector.{Collector}
 use Rattle.collector_phases.specs.declared.Phase.TheVariants.{Poll, Range, Look, Take, Drain}
 use Rattle.collector_phases.specs.Phases.{phase_number}

@@ -1,8 +1,7 @@
 -- Which triggers and ends begin a conversion, and on which channel (the specification, "Conversions, edges and requests"). The tests are
 -- `trigger_starts` and `end_starts` of Channels; these laws say that after an operation a conversion runs as they say. Assumes nothing.
-use Rattle.std.specs.Prelude.{◌≡◌, refl, Bool, true, false, ◌&&◌, ◌||◌, not, ℕ}
+use Rattle.std.specs.Prelude.{◌≡◌, refl, Bool, true, false, ◌&&◌, ◌||◌, not, ℕ, if◌then◌else◌}
 use Rattle.base.specs.Flags.{on}
-use Rattle.base.specs.Choice.{if◌then◌else◌}
 use Rattle.converter.specs.declared.channels.Converter.{Converter}
 use Rattle.converter.specs.Channels.{started, idle, trigger_starts, triggered, software_trigger, internal_trigger, external_trigger, end_starts, ended}
 

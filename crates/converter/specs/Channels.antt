@@ -1,8 +1,7 @@
 -- Channels, triggers and ends of conversions (manual 10.1, 11.3, 11.4, Base + 0, 8 and 9; the specification, "Conversions, edges and requests").
 -- The manual's Base + 0 page lets a software trigger start a conversion whatever the clock; its Base + 9 page and the specification do not.
-use Rattle.std.specs.Prelude.{Bool, ◌&&◌, not, ℕ, ◌+◌, leb, eqb}
+use Rattle.std.specs.Prelude.{Bool, ◌&&◌, not, ℕ, ◌+◌, leb, eqb, if◌then◌else◌}
 use Rattle.base.specs.Flags.{on}
-use Rattle.base.specs.Choice.{if◌then◌else◌}
 use Rattle.converter.specs.declared.channels.Converter.{Converter}
 
 -- one up, 31 to 0

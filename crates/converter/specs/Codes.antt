@@ -1,8 +1,7 @@
 -- Signed codes and the 16-bit samples that stand for them, two's complement (manual, Base + 0 and 1).
-use Rattle.std.specs.Prelude.{◌≡◌, refl, Bool, true, false, ℕ, ◌-◌, ◌<◌, ◌^◌, ℤ, pos, negsuc, ltb}
+use Rattle.std.specs.Prelude.{◌≡◌, refl, Bool, true, false, ℕ, ◌-◌, ◌<◌, ◌^◌, ℤ, pos, negsuc, ltb, if◌then◌else◌}
 use Rattle.std.proofs.Common.{ap, arith, SFits, lt-ltb, le-ltb}
 use Rattle.std.specs.Int.{w16}
-use Rattle.base.specs.Choice.{if◌then◌else◌}
 
 -- the sample of a code; `negsuc n` is the integer -(n + 1)
 abbrev pub sample_of : ℤ → ℕ

@@ -1,8 +1,7 @@
 -- The order of the channels (manual 10.1, 11.3 and 11.4; the specification, "Conversions, edges and requests"): from low on, one up each time,
 -- 31 to 0, as far as high, and again. A low above high goes on through 31 and 0. Assumes nothing.
-use Rattle.std.specs.Prelude.{◌≡◌, refl, List, [], ◌∷◌, ◌++◌, Bool, true, false, ℕ, zero, suc, ◌+◌, ◌-◌, ◌%◌, ◌≤◌, get_or, take, leb}
+use Rattle.std.specs.Prelude.{◌≡◌, refl, List, [], ◌∷◌, ◌++◌, Bool, true, false, ℕ, zero, suc, ◌+◌, ◌-◌, ◌%◌, ◌≤◌, get_or, take, leb, if◌then◌else◌}
 use Rattle.std.proofs.Common.{sym, ap, ◌∙◌, arith, eq-eqb, ne_eqb, leb-true, leb-false}
-use Rattle.base.specs.Choice.{if◌then◌else◌}
 use Rattle.converter.specs.declared.channels.Converter.{Converter}
 use Rattle.converter.specs.Channels.{up, next_channel, started, software_triggered, ended}
 use Rattle.converter.specs.Working.{WorkingConverter}

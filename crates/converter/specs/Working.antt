@@ -1,7 +1,6 @@
 -- What a working board's converter is (the specification, "What is delivered": every register and channel is within its range).
-use Rattle.std.specs.Prelude.{◌≡◌, refl, List, [], ◌∷◌, Bool, true, false, ℕ, ◌+◌, ◌%◌, ◌≤◌, leb, eqb}
+use Rattle.std.specs.Prelude.{◌≡◌, refl, List, [], ◌∷◌, Bool, true, false, ℕ, ◌+◌, ◌%◌, ◌≤◌, leb, eqb, if◌then◌else◌}
 use Rattle.std.proofs.Common.{arith, leb-true, leb-false, le-leb}
-use Rattle.base.specs.Choice.{if◌then◌else◌}
 use Rattle.base.specs.Laws.{by_choice}
 use Rattle.base.specs.Tests.{all, each, every}
 use Rattle.converter.specs.declared.channels.Converter.{Converter}

@@ -1,7 +1,6 @@
 -- Counts by bytes, and the output latch OL. Data sheet (manual, chapter 19): "Write Operations", "Read Operations", "Counter Latch Command".
-use Rattle.std.specs.Prelude.{ℕ, ◌+◌, ◌*◌, ◌/◌, ◌%◌, Bool}
+use Rattle.std.specs.Prelude.{ℕ, ◌+◌, ◌*◌, ◌/◌, ◌%◌, Bool, if◌then◌else◌}
 use Rattle.base.specs.Flags.{on}
-use Rattle.base.specs.Choice.{if◌then◌else◌}
 use Rattle.counter_modes.specs.declared.Format.{Format}
 use Rattle.counter_modes.specs.declared.Format.TheVariants.{LeastByte, MostByte, TwoBytes}
 use Rattle.counter_bytes.specs.declared.Piece.{Piece}

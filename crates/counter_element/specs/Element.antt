@@ -1,8 +1,7 @@
 -- The count register CR, the counting element CE, OUT, and loading and counting on a CLK pulse. Data sheet (manual, chapter 19): figure 3
 -- "Counter internal block diagram", "Mode Definitions", "Operation Common to All Modes".
-use Rattle.std.specs.Prelude.{ℕ, ◌+◌, ◌%◌, Bool, not, ◌&&◌, ◌||◌, ◌==◌}
+use Rattle.std.specs.Prelude.{ℕ, ◌+◌, ◌%◌, Bool, not, ◌&&◌, ◌||◌, ◌==◌, if◌then◌else◌}
 use Rattle.base.specs.Flags.{on, flag}
-use Rattle.base.specs.Choice.{if◌then◌else◌}
 use Rattle.counter_modes.specs.Modes.{first_out, load_out, byte_stops, loads_at_once, trigger_loads, gate_raises}
 use Rattle.counter_modes.specs.declared.Mode.{Mode}
 use Rattle.counter_modes.specs.declared.Mode.TheVariants.{TerminalCount, RateGenerator}

@@ -1,8 +1,7 @@
 -- The mode by a bit of the control word: bit 2 of one that programs a counter is clear in mode 0 and set in mode 2. Data sheet (manual, chapter
 -- 19): "Control Word Format", M2 M1 M0 is 000 in mode 0 and X10 in mode 2.
-use Rattle.std.specs.Prelude.{◌≡◌, refl, Bool, true, false, ℕ, ◌/◌, ◌%◌, eqb}
+use Rattle.std.specs.Prelude.{◌≡◌, refl, Bool, true, false, ℕ, ◌/◌, ◌%◌, eqb, if◌then◌else◌}
 use Rattle.std.proofs.Common.{arith, eqb-true, eq-eqb, ne_eqb}
-use Rattle.base.specs.Choice.{if◌then◌else◌}
 use Rattle.base.specs.Fields.{bit}
 use Rattle.counter_modes.specs.Control.{command, format_of, setup_by, setup_of}
 use Rattle.counter_modes.specs.declared.Mode.{Mode}

@@ -1,7 +1,6 @@
 -- The control word. Data sheet (manual, chapter 19): "Control Word Format", D7 to D0 = SC1 SC0 RW1 RW0 M2 M1 M0 BCD, and "Counter Latch
 -- Command". SC, which selects the counter, is read by the three counters together.
-use Rattle.std.specs.Prelude.{Bool, true, false, ℕ, ◌%◌, eqb}
-use Rattle.base.specs.Choice.{if◌then◌else◌}
+use Rattle.std.specs.Prelude.{Bool, true, false, ℕ, ◌%◌, eqb, if◌then◌else◌}
 use Rattle.base.specs.Fields.{field, bit}
 use Rattle.counter_modes.specs.declared.Mode.TheVariants.{TerminalCount, RateGenerator}
 use Rattle.counter_modes.specs.declared.Format.{Format}

@@ -1,8 +1,7 @@
 -- One counter: what each event makes of it. Data sheet (manual, chapter 19); the specification, "Conversions, edges and requests":
 -- "Counters follow the data sheet ...". An unprogrammed counter: "OUT high, reads 0, latch without effect", and a count for it is refused.
-use Rattle.std.specs.Prelude.{ℕ, ◌%◌, Bool, true, false, not, ◌&&◌, ◌||◌, ◌==◌}
+use Rattle.std.specs.Prelude.{ℕ, ◌%◌, Bool, true, false, not, ◌&&◌, ◌||◌, ◌==◌, if◌then◌else◌}
 use Rattle.base.specs.Flags.{on, flag}
-use Rattle.base.specs.Choice.{if◌then◌else◌}
 use Rattle.counter_modes.specs.Modes.{trigger_loads, from_two}
 use Rattle.counter_modes.specs.Control.{command, setup_of}
 use Rattle.counter_element.specs.Element.{first_count, piece_taken, gate_seen, pulse_taken}

@@ -1,10 +1,9 @@
 -- Many pulses of a working counter: by the outcomes of the code's tests, the pulses in which its count alone moves, the counter after some of them,
 -- and its period. Assumes nothing.
-use Rattle.std.proofs.Common.{◌≡◌, ℕ, ◌+◌, ◌-◌, ◌/◌, ◌%◌, ◌<◌, ◌≤◌, Bool, true, false, not, ◌&&◌, ◌||◌, eqb, ltb, leb, sym, refl, ap, ◌∙◌, ap₂, arith, eq-eqb, ne_eqb, eqb-true}
+use Rattle.std.proofs.Common.{◌≡◌, ℕ, ◌+◌, ◌-◌, ◌/◌, ◌%◌, ◌<◌, ◌≤◌, Bool, true, false, not, ◌&&◌, ◌||◌, eqb, ltb, leb, sym, refl, ap, ◌∙◌, ap₂, arith, eq-eqb, ne_eqb, eqb-true, if◌then◌else◌}
 use borrow.Author.Tests.{eqb-false}
 use mir.Val.{bool_byte}
 use Rattle.base.specs.Flags.{on, flag}
-use Rattle.base.specs.Choice.{if◌then◌else◌}
 use Rattle.base.specs.Laws.{never, both, not_not, not_true}
 use Rattle.counter_modes.specs.Bits.{mode_by, rate, mode_bit}
 use Rattle.counter_modes.specs.Control.{setup_of}

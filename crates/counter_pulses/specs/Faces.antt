@@ -1,10 +1,9 @@
 -- A counter that has no trigger and no count to load: CLK pulses at one GATE level change its count and OUT alone, its face, and what they go by, its
 -- pace, stays as it is. Data sheet (manual, chapter 19), modes 0 and 2.
-use Rattle.std.specs.Prelude.{◌≡◌, ℕ, Bool, true, false, not, ◌||◌, ◌==◌, refl}
+use Rattle.std.specs.Prelude.{◌≡◌, ℕ, Bool, true, false, not, ◌||◌, ◌==◌, refl, if◌then◌else◌}
 use Rattle.std.proofs.Common.{sym, ap, ap₂, ◌∙◌}
 use borrow.Author.Tests.{eqb-true}
 use Rattle.base.specs.Flags.{on, flag}
-use Rattle.base.specs.Choice.{if◌then◌else◌}
 use Rattle.base.specs.Laws.{never, both}
 use Rattle.counter_modes.specs.Bits.{mode_by, rate, mode_bit}
 use Rattle.counter_modes.specs.Control.{setup_of}

@@ -1,12 +1,11 @@
 -- What the theorems of ModeZero rest on: a counter in mode 0 as a count comes to it, and signal by signal after that.
-use Rattle.std.specs.Prelude.{◌≡◌, ℕ, suc, Bool, true, false, ◌&&◌, ◌||◌, List, [], ◌∷◌, ◌==◌, nat_le, refl}
+use Rattle.std.specs.Prelude.{◌≡◌, ℕ, suc, Bool, true, false, ◌&&◌, ◌||◌, List, [], ◌∷◌, ◌==◌, nat_le, refl, if◌then◌else◌}
 use Rattle.std.proofs.Common.{arith, sym, ap, ◌∙◌, eqb-true, le-leb}
 use Rattle.std.proofs.Math.Path.{subst⁻¹}
 use Rattle.std.proofs.Math.Bool.{and-false, or-false}
 use Rattle.std.proofs.lemmas.Bool.{eqb-false}
 use Rattle.std.proofs.Math.Dec.{leb-suc-zero, leb-suc-suc}
 use Rattle.base.specs.Flags.{on, flag, on-flag}
-use Rattle.base.specs.Choice.{if◌then◌else◌}
 use Rattle.counter_modes.specs.Control.{setup_of}
 use Rattle.counter_modes.specs.declared.Mode.TheVariants.{TerminalCount}
 use Rattle.counter_modes.specs.declared.Format.{Format}

@@ -1,11 +1,10 @@
 -- What the theorems of ModeTwo on a count that is written while another runs rest on: a counter in mode 2 that is in a period, with OUT low where its count is
 -- 1.
-use Rattle.std.specs.Prelude.{◌≡◌, ℕ, suc, ◌+◌, ◌%◌, ◌<◌, ◌≤◌, Bool, true, false, not, ◌||◌, ◌==◌, ◌≢◌, refl}
+use Rattle.std.specs.Prelude.{◌≡◌, ℕ, suc, ◌+◌, ◌%◌, ◌<◌, ◌≤◌, Bool, true, false, not, ◌||◌, ◌==◌, ◌≢◌, refl, if◌then◌else◌}
 use Rattle.std.proofs.Common.{arith, sym, ap, ◌∙◌, eqb-true, eq-eqb, ne_eqb}
 use Rattle.std.proofs.Math.Bool.{and-true}
 use Rattle.std.proofs.lemmas.Bool.{eqb-false}
 use Rattle.base.specs.Flags.{on, flag, on-flag, flag-on}
-use Rattle.base.specs.Choice.{if◌then◌else◌}
 use Rattle.base.specs.Laws.{by_choice, never}
 use Rattle.counter_modes.specs.Control.{setup_of}
 use Rattle.counter_modes.specs.declared.Mode.TheVariants.{RateGenerator}

@@ -1,10 +1,9 @@
 -- Whole periods of a counter in mode 2: they leave it as it was, and its OUT falls once in each. Data sheet (manual, chapter 19), mode 2: "When the
 -- initial count has decremented to 1, OUT goes low for one CLK pulse. OUT then goes high again, the Counter reloads the initial count".
-use Rattle.std.specs.Prelude.{◌≡◌, ℕ, zero, suc, ◌+◌, ◌-◌, ◌*◌, ◌<◌, ◌≤◌, Bool, true, false, not, ◌&&◌, nat_le, nat_lt, refl}
+use Rattle.std.specs.Prelude.{◌≡◌, ℕ, zero, suc, ◌+◌, ◌-◌, ◌*◌, ◌<◌, ◌≤◌, Bool, true, false, not, ◌&&◌, nat_le, nat_lt, refl, if◌then◌else◌}
 use Rattle.std.proofs.Common.{arith, sym, ap, ◌∙◌, subst}
 use borrow.Author.Tests.{eqb-true, ne_eqb, ltb-true, leb-true}
 use Rattle.base.specs.Flags.{on}
-use Rattle.base.specs.Choice.{if◌then◌else◌}
 use Rattle.base.specs.Laws.{both, not_true}
 use Rattle.counter_modes.specs.Control.{setup_of}
 use Rattle.counter_modes.specs.declared.Mode.TheVariants.{TerminalCount, RateGenerator}

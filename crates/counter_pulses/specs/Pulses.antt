@@ -1,10 +1,9 @@
 -- Many CLK pulses at one counter, taken at once while its count alone moves. Data sheet (manual, chapter 19), modes 0 and 2: OUT stays as it is
 -- until the count comes to 0 in mode 0, and until it comes to 1 in mode 2.
-use Rattle.std.specs.Prelude.{◌≡◌, ℕ, zero, suc, ◌+◌, ◌-◌, ◌*◌, ◌%◌, ◌<◌, ◌≤◌, Bool, true, false, ◌&&◌, ◌||◌, refl}
+use Rattle.std.specs.Prelude.{◌≡◌, ℕ, zero, suc, ◌+◌, ◌-◌, ◌*◌, ◌%◌, ◌<◌, ◌≤◌, Bool, true, false, ◌&&◌, ◌||◌, refl, if◌then◌else◌}
 use Rattle.std.proofs.Common.{arith, sym, ap, ◌∙◌, eqb-true, ne_eqb}
 use Rattle.std.proofs.lemmas.Bool.{eqb-false}
 use Rattle.base.specs.Flags.{on}
-use Rattle.base.specs.Choice.{if◌then◌else◌}
 use Rattle.counter_modes.specs.Control.{setup_of}
 use Rattle.counter_modes.specs.Modes.{trigger_loads}
 use Rattle.counter_modes.specs.declared.Mode.{Mode}

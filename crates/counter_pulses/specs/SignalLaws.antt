@@ -1,10 +1,9 @@
 -- What holds of signals, and of the bytes of a count, in every mode.
-use Rattle.std.specs.Prelude.{◌≡◌, ℕ, zero, suc, ◌+◌, ◌*◌, ◌<◌, Bool, true, false, leb, List, [], ◌∷◌, ◌==◌, nat_le, nat_lt, refl}
+use Rattle.std.specs.Prelude.{◌≡◌, ℕ, zero, suc, ◌+◌, ◌*◌, ◌<◌, Bool, true, false, leb, List, [], ◌∷◌, ◌==◌, nat_le, nat_lt, refl, if◌then◌else◌}
 use Rattle.std.proofs.Common.{arith, sym, ap, ◌∙◌, eqb-true, le-ltb}
 use Rattle.std.proofs.lemmas.Bool.{eqb-false, lt-leb}
 use Rattle.std.proofs.Math.Dec.{leb-suc-suc}
 use Rattle.base.specs.Flags.{on}
-use Rattle.base.specs.Choice.{if◌then◌else◌}
 use Rattle.counter_modes.specs.Control.{command}
 use Rattle.counter_modes.specs.declared.ControlCommand.TheVariants.{Program}
 use Rattle.counter_modes.specs.declared.Mode.{Mode}

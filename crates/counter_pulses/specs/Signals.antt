@@ -1,7 +1,6 @@
 -- What comes to the pins of one counter over many steps, and its count. Data sheet (manual, chapter 19), "Mode Definitions": "CLK PULSE: a rising edge, then
 -- a falling edge, in that order, of a Counter's CLK input", "TRIGGER: a rising edge of a Counter's Gate input"; "Operation Common to All Modes".
-use Rattle.std.specs.Prelude.{ℕ, zero, suc, Bool, true, false, List, [], ◌∷◌, ◌==◌}
-use Rattle.base.specs.Choice.{if◌then◌else◌}
+use Rattle.std.specs.Prelude.{ℕ, zero, suc, Bool, true, false, List, [], ◌∷◌, ◌==◌, if◌then◌else◌}
 use Rattle.counter_one.specs.Counter.{pulsed, gate_moved}
 use Rattle.counter_one.specs.declared.Counter.{Counter}
 use Rattle.counter_pulses.specs.Pulses.{one_more}

@@ -1,9 +1,8 @@
 -- The earlier layout of the sample memory: the specification, "What is delivered", before request M-105: "A working board holds 0 to 512 samples,
 -- oldest first from place 0; a read moves the rest down and free places are 0." It has no place of the oldest: it does not look at that part of
 -- the record, and leaves it. It serves the theorem that both layouts hold the same samples and answer alike (board_laws/specs/Same.antt) alone.
-use Rattle.std.specs.Prelude.{List, [], ◌∷◌, ◌++◌, Bool, ◌||◌, not, ℕ, ◌+◌, ◌-◌, length, take, drop, replicate, leb, ltb, eqb}
+use Rattle.std.specs.Prelude.{List, [], ◌∷◌, ◌++◌, Bool, ◌||◌, not, ℕ, ◌+◌, ◌-◌, length, take, drop, replicate, leb, ltb, eqb, if◌then◌else◌}
 use Rattle.base.specs.Flags.{on}
-use Rattle.base.specs.Choice.{if◌then◌else◌}
 use Rattle.base.specs.Tests.{all}
 use Rattle.fifo.specs.declared.Fifo.{Fifo}
 use Rattle.fifo.specs.Queue.{zeros}

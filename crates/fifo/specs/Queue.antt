@@ -7,9 +7,8 @@ pub mod Laws
 pub mod Steps
 pub mod Tested
 pub mod FromZero
-use Rattle.std.specs.Prelude.{◌≡◌, List, [], ◌∷◌, ◌++◌, Bool, true, ◌&&◌, ◌||◌, not, ℕ, ◌+◌, ◌-◌, ◌%◌, ◌≤◌, ◌<◌, length, take, drop, replicate, leb, ltb, eqb}
+use Rattle.std.specs.Prelude.{◌≡◌, List, [], ◌∷◌, ◌++◌, Bool, true, ◌&&◌, ◌||◌, not, ℕ, ◌+◌, ◌-◌, ◌%◌, ◌≤◌, ◌<◌, length, take, drop, replicate, leb, ltb, eqb, if◌then◌else◌}
 use Rattle.base.specs.Flags.{on}
-use Rattle.base.specs.Choice.{if◌then◌else◌}
 use Rattle.base.specs.Tests.{all}
 use Rattle.fifo.specs.declared.Fifo.{Fifo}
 

@@ -1,6 +1,5 @@
 -- The samples held, as a list, oldest first (manual 10 "The A/D FIFO", 11.2; the specification's registers 0 and 1, and its ends of conversions).
-use Rattle.std.specs.Prelude.{List, [], ◌∷◌, ◌++◌, ℕ, ◌/◌, ◌%◌, length, drop, ltb}
-use Rattle.base.specs.Choice.{if◌then◌else◌}
+use Rattle.std.specs.Prelude.{List, [], ◌∷◌, ◌++◌, ℕ, ◌/◌, ◌%◌, length, drop, ltb, if◌then◌else◌}
 use Rattle.fifo.specs.declared.OldestSample.{OldestSample}
 use Rattle.fifo.specs.declared.OldestSample.TheVariants.{NoneHeld, Sample}
 

@@ -4,9 +4,8 @@
 --     bits 31-24   the transfer that runs      bits 23-16   the channel of the conversion in progress
 --     bits 10-8    ports C, B, A differ        bits 7-4     outputs 3 to 0 differ     bit 3   DOUT differs
 --     bit 2        a transfer runs             bit 1        a conversion is in progress     bit 0   an interrupt is asked for
-use Rattle.std.specs.Prelude.{ℕ, ◌+◌, ◌*◌, Bool, not, ◌||◌, eqb}
+use Rattle.std.specs.Prelude.{ℕ, ◌+◌, ◌*◌, Bool, not, ◌||◌, eqb, if◌then◌else◌}
 use Rattle.base.specs.Flags.{on}
-use Rattle.base.specs.Choice.{if◌then◌else◌}
 use Rattle.base.specs.Weights.{weight_of}
 use Rattle.converter.specs.declared.channels.Converter.{Converter}
 use Rattle.requests.specs.Requests.{asking}

@@ -1,7 +1,6 @@
 -- A fresh board. The specification, "What is delivered": "A fresh board is as after RESETA, with counters unprogrammed, dividers at 0,
 -- DIN 15, Latch and port pins 0, EEPROM and TrimDAC 0."
-use Rattle.std.specs.Prelude.{ℕ, Bool, eqb}
-use Rattle.base.specs.Choice.{if◌then◌else◌}
+use Rattle.std.specs.Prelude.{ℕ, Bool, eqb, if◌then◌else◌}
 use Rattle.base.specs.Flags.{flag}
 use Rattle.converter.specs.Registers.{fresh_converter}
 use Rattle.requests.specs.Registers.{fresh_requests}

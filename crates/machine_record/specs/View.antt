@@ -1,7 +1,6 @@
 -- What a host sees of DOUT, and what a guest reads of the jumpers (manual, Base+1, Base+8, Base+10, 5.4 and 16.5).
-use Rattle.std.specs.Prelude.{ℕ, ◌+◌, Bool, not, ◌&&◌, ◌||◌, eqb}
+use Rattle.std.specs.Prelude.{ℕ, ◌+◌, Bool, not, ◌&&◌, ◌||◌, eqb, if◌then◌else◌}
 use Rattle.base.specs.Flags.{on}
-use Rattle.base.specs.Choice.{if◌then◌else◌}
 use Rattle.base.specs.Fields.{bit}
 use Rattle.base.specs.Weights.{weight_of}
 use Rattle.machine_record.specs.declared.Board.{Board}

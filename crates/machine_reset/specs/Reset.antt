@@ -1,8 +1,7 @@
 -- Base+8 write: RESETA bit 5, RESETD bit 4, INTRST bit 3, page bits 1-0 (manual, Base+8; the specification, register 8). Manual 16.1 and
 -- 17.3 say that a reset bit leaves the page bits; the specification zeroes the page.
-use Rattle.std.specs.Prelude.{ℕ, ◌%◌, Bool, ◌||◌}
+use Rattle.std.specs.Prelude.{ℕ, ◌%◌, Bool, ◌||◌, if◌then◌else◌}
 use Rattle.base.specs.Flags.{on}
-use Rattle.base.specs.Choice.{if◌then◌else◌}
 use Rattle.base.specs.Fields.{bit}
 use Rattle.converter.specs.Registers.{fresh_converter}
 use Rattle.requests.specs.Registers.{fresh_requests}

@@ -1,7 +1,6 @@
 -- How many ticks go one by one between looks at how far one can skip.
-use Rattle.std.specs.Prelude.{ℕ, ◌+◌, ◌*◌, ◌≤◌, leb, ltb}
+use Rattle.std.specs.Prelude.{ℕ, ◌+◌, ◌*◌, ◌≤◌, leb, ltb, if◌then◌else◌}
 use Rattle.std.proofs.Common.{arith, ltb-true, ltb-false}
-use Rattle.base.specs.Choice.{if◌then◌else◌}
 use Rattle.base.specs.Laws.{by-test, by_choice}
 
 abbrev pub least : ℕ → ℕ → ℕ

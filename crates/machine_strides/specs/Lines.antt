@@ -1,9 +1,8 @@
 -- The CLK pulses that some ticks bring to counter 0 or 1: none while its clock is stopped, one in every tick, or one each time that its divider comes
 -- round (manual, Base+10 and 17.1). A divider that counts to `last` is at h; one law holds for both, of 100 and of 1,000 ticks.
-use Rattle.std.specs.Prelude.{ℕ, suc, ◌+◌, ◌-◌, ◌*◌, ◌≤◌, ◌<◌, ◌/◌, ◌%◌, ◌≡◌, refl, Bool, true, false, not, ◌&&◌, ◌||◌, eqb, ltb}
+use Rattle.std.specs.Prelude.{ℕ, suc, ◌+◌, ◌-◌, ◌*◌, ◌≤◌, ◌<◌, ◌/◌, ◌%◌, ◌≡◌, refl, Bool, true, false, not, ◌&&◌, ◌||◌, eqb, ltb, if◌then◌else◌}
 use Rattle.std.proofs.Common.{arith, mod-eq_of_lt, div-lt_iff_lt-mul, mul-le-mul_right, mul_assoc, sym, ap, ◌∙◌, ne_eqb, ltb-true, ltb-false, eqb-true}
 use Rattle.std.proofs.Math.Nat.{add-div_left, add-mod_left, div-eq_of_lt, add-mul-div_right}
-use Rattle.base.specs.Choice.{if◌then◌else◌}
 use Rattle.base.specs.Laws.{by-test}
 use Rattle.machine_tick.specs.Tick.{next_tick}
 use Rattle.counter_pulses.specs.Pulses.{far, one_more}

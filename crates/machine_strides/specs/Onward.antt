@@ -1,7 +1,6 @@
 -- A stride in two parts: the first is heard, and is all of it; or it is not, and the second goes on from there.
-use Rattle.std.specs.Prelude.{ℕ, zero, suc, ◌+◌, ◌≤◌, ◌≡◌, refl, Bool, true, false, ◌&&◌, ◌||◌}
+use Rattle.std.specs.Prelude.{ℕ, zero, suc, ◌+◌, ◌≤◌, ◌≡◌, refl, Bool, true, false, ◌&&◌, ◌||◌, if◌then◌else◌}
 use Rattle.std.proofs.Common.{arith, sym, ap, ◌∙◌}
-use Rattle.base.specs.Choice.{if◌then◌else◌}
 use Rattle.base.specs.Laws.{never}
 use Rattle.timer.specs.declared.Gates.{Gates}
 use Rattle.machine_record.specs.Working.{WorkingClocks}

@@ -1,10 +1,9 @@
 -- Ticks of settled clocks: counters 1 and 2 have no trigger and no count to load, counter 1 has a pulse in every tick, and of counter 0 the count alone
 -- moves. Each tick changes the faces of counters 1 and 2 (their counts and OUTs); all else can be told from the number of ticks.
-use Rattle.std.specs.Prelude.{ℕ, zero, suc, ◌+◌, ◌≤◌, ◌<◌, ◌/◌, ◌%◌, ◌≡◌, Bool, false, not, ◌&&◌, eqb, ltb, leb}
+use Rattle.std.specs.Prelude.{ℕ, zero, suc, ◌+◌, ◌≤◌, ◌<◌, ◌/◌, ◌%◌, ◌≡◌, Bool, false, not, ◌&&◌, eqb, ltb, leb, if◌then◌else◌}
 use Rattle.std.proofs.Common.{arith, sym, ◌∙◌, ne_eqb, ltb-true, ltb-false, leb-true}
 use Rattle.std.proofs.Math.Path.{refl, ap}
 use Rattle.std.proofs.Math.Bool.{true}
-use Rattle.base.specs.Choice.{if◌then◌else◌}
 use Rattle.base.specs.Fields.{bit}
 use Rattle.base.specs.Flags.{on}
 use Rattle.base.specs.Laws.{by-test, both, not_true}

@@ -1,8 +1,7 @@
 -- Ticks of the clocks one after another, as far as the first with which a listener has something to do (the specification, "Conversions, edges and
 -- requests": with TINTE a falling OUT0 sets TINT, with CLKEN and CLKSEL = 1 a falling OUT2 is a trigger); and ticks that can be passed over.
-use Rattle.std.specs.Prelude.{ℕ, zero, suc, ◌+◌, ◌≤◌, ◌<◌, ◌≡◌, refl, Bool, true, false, ◌&&◌, ◌||◌}
+use Rattle.std.specs.Prelude.{ℕ, zero, suc, ◌+◌, ◌≤◌, ◌<◌, ◌≡◌, refl, Bool, true, false, ◌&&◌, ◌||◌, if◌then◌else◌}
 use Rattle.std.proofs.Common.{arith, sym, ap, ◌∙◌, subst}
-use Rattle.base.specs.Choice.{if◌then◌else◌}
 use Rattle.timer.specs.declared.Gates.{Gates}
 use Rattle.machine_record.specs.declared.Clocks.{Clocks}
 use Rattle.machine_tick.specs.InPlace.{clocks_ticked, falls0, falls2}

@@ -1,8 +1,8 @@
 // Ticks of a working board's clocks, many in one call: specs/Strides.antt. Ticks in which counts alone move, and whole periods of counter 1, are taken at once
 // (skips.rt); any other is one tick, mostly by the counts and OUTs of counters 1 and 2 alone (specs/Settled.antt). `counting` is the byte of Base+10.
 #![tactic(auto)]
-ghost use Rattle.std.specs.Prelude.{◌≡◌};
-ghost use Rattle.base.specs.Choice.{if◌then◌else◌};
+
+ghost use Rattle.std.specs.Prelude.{◌≡◌, if◌then◌else◌};
 ghost use Rattle.machine_record.specs.Working.{WorkingClocks};
 ghost use Rattle.counter_pulses.specs.Faces.{face_counted};
 ghost use Rattle.machine_strides.specs.Bursts.{burst_after};

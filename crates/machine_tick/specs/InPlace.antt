@@ -1,7 +1,6 @@
 -- A tick, part by part: the counters with the dividers, TINT, the trigger and DACBUSY. What "counter 0, counter 1, counter 2, then DACBUSY" leaves of each.
-use Rattle.std.specs.Prelude.{ℕ, ◌≤◌, ◌≡◌, refl, Bool, true, false, ◌&&◌, ◌||◌}
+use Rattle.std.specs.Prelude.{ℕ, ◌≤◌, ◌≡◌, refl, Bool, true, false, ◌&&◌, ◌||◌, if◌then◌else◌}
 use Rattle.std.proofs.Common.{ap, ◌∙◌}
-use Rattle.base.specs.Choice.{if◌then◌else◌}
 use Rattle.base.specs.Flags.{on, flag, flag-on, flag-le}
 use Rattle.converter.specs.Channels.{internal_triggered}
 use Rattle.converter.specs.declared.channels.Converter.{Converter}

@@ -1,8 +1,7 @@
 -- A tick of the 10 MHz clock, and the clocks of the counters (manual, Base+10 and 17.1; the specification, "Conversions, edges and
 -- requests"). It is a row of small steps, each Board → Board. Base+10 is FREQ12 FREQ0 OUT2EN OUT0EN RSVD GT0EN SRC0 GT12EN. Its page gives
 -- the FREQ0 clock to SRC0 = 1 and DIN0's rising edge to 0; the specification has DIN0's falling edge for SRC0 = 1, and so FREQ0's clock for 0.
-use Rattle.std.specs.Prelude.{ℕ, ◌+◌, Bool, not, ◌&&◌, ◌||◌, eqb, ltb}
-use Rattle.base.specs.Choice.{if◌then◌else◌}
+use Rattle.std.specs.Prelude.{ℕ, ◌+◌, Bool, not, ◌&&◌, ◌||◌, eqb, ltb, if◌then◌else◌}
 use Rattle.base.specs.Fields.{bit}
 use Rattle.outputs.specs.Outputs as outputs
 use Rattle.timer.specs.Timer.{clocked_if}

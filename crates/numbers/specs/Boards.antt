@@ -1,7 +1,6 @@
 -- A fresh board for C hosts, whose jumpers come as a number. The specification, "What is delivered"; manual 5.4.
-use Rattle.std.specs.Prelude.{ℕ, ◌≤◌, ◌<◌, Bool, true, false, ◌≡◌, refl, leb}
+use Rattle.std.specs.Prelude.{ℕ, ◌≤◌, ◌<◌, Bool, true, false, ◌≡◌, refl, leb, if◌then◌else◌}
 use Rattle.std.proofs.Common.{arith}
-use Rattle.base.specs.Choice.{if◌then◌else◌}
 use Rattle.base.specs.Flags.{nonzero}
 use Rattle.machine_record.specs.Fresh.{fresh_board, jumpers_number}
 use Rattle.machine_record.specs.Working.{is_working_machine, machine_of}

@@ -1,12 +1,11 @@
 -- The value in a step's answer is one of 16 bits: a read shows registers and counts within their types, bits of a byte, or a byte of the oldest sample; a word
 -- read the oldest sample; either all ones where none is held. Bounds for Decoded.antt.
-use Rattle.std.specs.Prelude.{ℕ, ◌<◌, ◌≡◌, refl, Bool, true, false, List, eqb}
+use Rattle.std.specs.Prelude.{ℕ, ◌<◌, ◌≡◌, refl, Bool, true, false, List, eqb, if◌then◌else◌}
 use Rattle.std.proofs.Common.{subst, arith, eqb-true}
 use Rattle.std.proofs.lemmas.Bool.{eqb-false}
 use mir.Val.{Val}
 use denote.Laws.{Is}
 use denote.Struct.Laws.{owed}
-use Rattle.base.specs.Choice.{if◌then◌else◌}
 use Rattle.base.specs.Flags.{on}
 use Rattle.base.specs.Weights.{weight_le}
 use Rattle.fifo.specs.Flags.{flags-fit}

@@ -2,8 +2,7 @@
 --     bits 31-29   the kind         bits 28-24   the refusal         bits 23-16   0         bits 15-0   the byte or the word
 -- The kinds: 0 done, 1 a byte, 2 a word, 3 refused, 4 nothing, of a word read that found no sample (request M-100: "a sample, or nothing there"). Bits 15-0 of
 -- nothing are what a guest is shown, FFFF; its kind tells it from the sample FFFF.
-use Rattle.std.specs.Prelude.{ℕ, ◌+◌, ◌*◌, ◌/◌, ◌%◌, eqb}
-use Rattle.base.specs.Choice.{if◌then◌else◌}
+use Rattle.std.specs.Prelude.{ℕ, ◌+◌, ◌*◌, ◌/◌, ◌%◌, eqb, if◌then◌else◌}
 use Rattle.base.specs.Fields.{lowest}
 use Rattle.board_events.specs.Answers.{refusal_number, value_read}
 use Rattle.board_events.specs.declared.Answer.{Answer}

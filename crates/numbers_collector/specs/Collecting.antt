@@ -1,7 +1,6 @@
 -- The collector's answers in records of numbers. The specification, "The collector"; what a kind does not have is 0.
-use Rattle.std.specs.Prelude.{ℕ, eqb, pos}
+use Rattle.std.specs.Prelude.{ℕ, eqb, pos, if◌then◌else◌}
 use Rattle.collector_phases.specs.declared.Collector.{Collector}
-use Rattle.base.specs.Choice.{if◌then◌else◌}
 use Rattle.collector_answers.specs.declared.BusAnswer.{BusAnswer}
 use Rattle.collector_answers.specs.declared.BusAnswer.TheVariants as bus
 use Rattle.samples.specs.declared.Sample.{Sample}

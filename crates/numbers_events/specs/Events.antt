@@ -1,7 +1,6 @@
 -- An event as one record of numbers. The specification, "What is delivered": "An event is one of: byte write, byte read, word read, conversion end with a
 -- signed code, DIN pins, Latch level, port pins, one 10 MHz tick, calibration transfer end." The kinds are those of include/cowriestep.h.
-use Rattle.std.specs.Prelude.{ℕ, Bool, ◌&&◌, eqb, leb, pos}
-use Rattle.base.specs.Choice.{if◌then◌else◌}
+use Rattle.std.specs.Prelude.{ℕ, Bool, ◌&&◌, eqb, leb, pos, if◌then◌else◌}
 use Rattle.ports.specs.declared.Port.TheVariants.{PortA, PortB, PortC}
 use Rattle.board_events.specs.declared.Event.{Event}
 use Rattle.board_events.specs.declared.Event.TheVariants.{WriteByte, ReadByte, ReadWord, ConversionEnd, DinPins, LatchLevel, PortPins, Tick, TransferEnd}

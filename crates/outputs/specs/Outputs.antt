@@ -1,8 +1,7 @@
 -- The analogue outputs (manual, chapters 13 and 14, and the pages of Base+4 and Base+5 in chapter 7; the specification,
 -- "Registers", 5 and 8): what each access, tick and reset makes of them.
-use Rattle.std.specs.Prelude.{Bool, not, ◌&&◌, ℕ, ◌+◌, ◌-◌, ◌*◌, ◌%◌, eqb, ltb}
+use Rattle.std.specs.Prelude.{Bool, not, ◌&&◌, ℕ, ◌+◌, ◌-◌, ◌*◌, ◌%◌, eqb, ltb, if◌then◌else◌}
 use Rattle.base.specs.Flags.{on}
-use Rattle.base.specs.Choice.{if◌then◌else◌}
 use Rattle.base.specs.Fields.{field, lowest}
 use Rattle.outputs.specs.declared.Codes.{Codes}
 use Rattle.outputs.specs.declared.Load.{Load}

@@ -1,7 +1,6 @@
 -- Laws of the ports: the tests are the facts, each operation keeps them, and what a port reads and drives.
-use Rattle.std.specs.Prelude.{◌≡◌, refl, Bool, true, false, not, ℕ}
+use Rattle.std.specs.Prelude.{◌≡◌, refl, Bool, true, false, not, ℕ, if◌then◌else◌}
 use Rattle.std.proofs.Common.{arith}
-use Rattle.base.specs.Choice.{if◌then◌else◌}
 use Rattle.base.specs.Fields.{bit}
 use Rattle.base.specs.Laws.{not_true}
 use Rattle.base.specs.Tests.{each, every}

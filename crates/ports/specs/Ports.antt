@@ -1,7 +1,6 @@
 -- The digital ports, an 82C55 in mode 0 (manual, 8.2 and chapter 16, and page 1 of the register map in chapter 6; the
 -- specification, "Registers", page 1): what each access, pin and reset makes of them, and what the board drives.
-use Rattle.std.specs.Prelude.{Bool, not, List, [], ◌∷◌, ℕ, ◌+◌, ◌*◌, ◌/◌, ◌%◌}
-use Rattle.base.specs.Choice.{if◌then◌else◌}
+use Rattle.std.specs.Prelude.{Bool, not, List, [], ◌∷◌, ℕ, ◌+◌, ◌*◌, ◌/◌, ◌%◌, if◌then◌else◌}
 use Rattle.base.specs.Fields.{bit}
 use Rattle.base.specs.Tests.{all}
 use Rattle.ports.specs.declared.Port.{Port}

@@ -2,10 +2,9 @@
 // definition of specs/Ports.antt.
 #![tactic(auto)]
 
-ghost use Rattle.std.specs.Prelude.{◌≡◌};
+ghost use Rattle.std.specs.Prelude.{◌≡◌, if◌then◌else◌};
 ghost use Rattle.ports.specs.Ports.{line_of, with_line, no_lines, high_input, low_input, joined, by_line, control_taken, port_control_refused};
 ghost use Rattle.ports.specs.Ports.{port_control_written, control_read, latch_written, port_read, pins_set, driven, levels, reset_ports, fresh_ports};
-ghost use Rattle.base.specs.Choice.{if◌then◌else◌};
 ghost use Rattle.ports.specs.Working.{is_working_ports};
 
 // A port of eight lines.

@@ -1,7 +1,6 @@
 -- Whole scans (the specification, "The collector": "Of a lent run of samples starting on low, the caller gets back the part holding whole
 -- scans, the longest from the front; a bad range gives the empty part").
-use Rattle.std.specs.Prelude.{ℕ, ◌+◌, ◌-◌, ◌*◌, ◌%◌, ◌≤◌, ◌≡◌, false, List, [], ℤ, length, take}
-use Rattle.base.specs.Choice.{if◌then◌else◌}
+use Rattle.std.specs.Prelude.{ℕ, ◌+◌, ◌-◌, ◌*◌, ◌%◌, ◌≤◌, ◌≡◌, false, List, [], ℤ, length, take, if◌then◌else◌}
 use Rattle.samples.specs.Refused.{bad_range}
 
 -- the channels of a scan

@@ -1,8 +1,7 @@
 -- What a line asks for. The specification, "The session program": `W offset value`, `R offset` (offset decimal 0 to 99, value two hex digits),
 -- `X` word read, `C code` (conversion end, decimal -32768 to 32767); "Another line prints its number and `bad`. Fields stand one space apart; hex
 -- digits may be either case, decimals have no plus or leading zero".
-use Rattle.std.specs.Prelude.{ℕ, ◌+◌, ◌-◌, ◌*◌, Bool, false, ◌&&◌, List, [], ◌∷◌, eqb, leb, ltb}
-use Rattle.base.specs.Choice.{if◌then◌else◌}
+use Rattle.std.specs.Prelude.{ℕ, ◌+◌, ◌-◌, ◌*◌, Bool, false, ◌&&◌, List, [], ◌∷◌, eqb, leb, ltb, if◌then◌else◌}
 use Rattle.session_digits.specs.Digits.{digit_of, hex_of}
 use Rattle.session_commands.specs.declared.Command.{Command}
 use Rattle.session_commands.specs.declared.Command.TheVariants.{WriteByte, ReadByte, ReadWord, EndConversion, NoCommand}

@@ -1,6 +1,5 @@
 -- A line read byte after byte: what it asks for where it ends. `read_line` (Line.antt) shows that this is `command_of`.
-use Rattle.std.specs.Prelude.{ℕ, Bool, not, leb}
-use Rattle.base.specs.Choice.{if◌then◌else◌}
+use Rattle.std.specs.Prelude.{ℕ, Bool, not, leb, if◌then◌else◌}
 use Rattle.session_reading.specs.declared.Number.{Number}
 use Rattle.session_reading.specs.declared.Number.TheVariants.{WriteOffset, ReadOffset, Code, MinusCode}
 use Rattle.session_reading.specs.declared.Reading.{Reading}

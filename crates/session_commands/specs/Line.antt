@@ -1,9 +1,8 @@
 -- A line read byte after byte asks for what its fields ask for, whatever its length and its bytes.
-use Rattle.std.specs.Prelude.{◌≡◌, refl, Bool, true, false, ◌&&◌, List, [], ◌∷◌, ℕ, ◌+◌, ◌*◌, ◌%◌, ◌<◌, eqb, leb, ltb}
+use Rattle.std.specs.Prelude.{◌≡◌, refl, Bool, true, false, ◌&&◌, List, [], ◌∷◌, ℕ, ◌+◌, ◌*◌, ◌%◌, ◌<◌, eqb, leb, ltb, if◌then◌else◌}
 use Rattle.std.proofs.Common.{ap, sym, ◌∙◌, mod-eq_of_lt, arith, eqb-true, leb-false, ltb-true}
 use Rattle.std.proofs.lemmas.Bool.{lt-leb}
 use Rattle.base.specs.Fields.{lowest}
-use Rattle.base.specs.Choice.{if◌then◌else◌}
 use Rattle.session_digits.specs.Digits.{digit_of, hex_of}
 use Rattle.session_commands.specs.Command.{FieldNumber, first, others, digits, alone, decimal, up_to, value, command_of}
 use Rattle.session_commands.specs.Command.FieldNumber.{none, some}

@@ -1,6 +1,5 @@
 -- Digits of a session's text (the specification, "The session program": "hex digits may be either case").
-use Rattle.std.specs.Prelude.{ℕ, ◌+◌, ◌%◌, ◌&&◌, ◌||◌, leb, ltb}
-use Rattle.base.specs.Choice.{if◌then◌else◌}
+use Rattle.std.specs.Prelude.{ℕ, ◌+◌, ◌%◌, ◌&&◌, ◌||◌, leb, ltb, if◌then◌else◌}
 
 -- the value of a decimal digit ('0' is 48); 10 for another byte
 unfoldable pub digit_of : ℕ → ℕ

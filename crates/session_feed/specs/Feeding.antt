@@ -1,7 +1,6 @@
 -- A session that is fed bytes: what it is after them, and what it has printed. Only a line feed (10) ends a line; all other bytes belong to it.
-use Rattle.std.specs.Prelude.{ℕ, suc, ◌+◌, ◌-◌, ◌≤◌, ◌<◌, ◌≡◌, List, [], ◌∷◌, ◌++◌, eqb, leb, length, take}
+use Rattle.std.specs.Prelude.{ℕ, suc, ◌+◌, ◌-◌, ◌≤◌, ◌<◌, ◌≡◌, List, [], ◌∷◌, ◌++◌, eqb, leb, length, take, if◌then◌else◌}
 use Rattle.std.proofs.Math.Seq.{slice}
-use Rattle.base.specs.Choice.{if◌then◌else◌}
 use Rattle.session_reading.specs.Reading.{taken}
 use Rattle.session_text.specs.Text.{Wrote}
 use Rattle.session_reading.specs.declared.Reading.{Reading}

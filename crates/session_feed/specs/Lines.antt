@@ -1,8 +1,7 @@
 -- What is printed for a text is what its lines print, one after the other, however the text came in pieces, with or without a last newline.
 -- The specification, "The session program": "the last line may lack its newline".
-use Rattle.std.specs.Prelude.{◌≡◌, refl, Bool, true, false, List, [], ◌∷◌, ◌++◌, ℕ, ◌+◌, ◌^◌, ◌<◌, eqb, length}
+use Rattle.std.specs.Prelude.{◌≡◌, refl, Bool, true, false, List, [], ◌∷◌, ◌++◌, ℕ, ◌+◌, ◌^◌, ◌<◌, eqb, length, if◌then◌else◌}
 use Rattle.std.proofs.Common.{ap, sym, ◌∙◌, append_assoc, append-nil, mod-eq_of_lt, arith, eqb-true}
-use Rattle.base.specs.Choice.{if◌then◌else◌}
 use Rattle.session_commands.specs.Command.{command_of}
 use Rattle.session_commands.specs.Line.{read_line, taken-begun}
 use Rattle.session_reading.specs.Reading.{taken, read_from}

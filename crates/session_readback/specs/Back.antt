@@ -1,9 +1,8 @@
 -- A number that is written as text reads back as itself: in decimal, with no leading zero; a byte by its two hex digits; a word by its two bytes.
-use Rattle.std.specs.Prelude.{◌≡◌, refl, Bool, true, false, List, [], ◌∷◌, ◌++◌, ℕ, zero, suc, ◌+◌, ◌*◌, ◌/◌, ◌%◌, ◌^◌, ◌<◌, ◌≤◌, eqb, ltb}
+use Rattle.std.specs.Prelude.{◌≡◌, refl, Bool, true, false, List, [], ◌∷◌, ◌++◌, ℕ, zero, suc, ◌+◌, ◌*◌, ◌/◌, ◌%◌, ◌^◌, ◌<◌, ◌≤◌, eqb, ltb, if◌then◌else◌}
 use Rattle.std.proofs.Common.{ap, ◌∙◌, arith, eqb-true, ltb-true, ltb-false, ne_eqb, lt-ltb, le-leb}
 use Rattle.std.proofs.Math.Nat.{pow-succ'}
 use Rattle.std.proofs.lemmas.Bool.{eqb-false, lt-leb}
-use Rattle.base.specs.Choice.{if◌then◌else◌}
 use Rattle.session_digits.specs.Digits.{digit_of, hex_of, hex_digit}
 use Rattle.session_text.specs.Text.{byte_text, word_text, digits_of, decimal_text}
 use Rattle.session_commands.specs.Command.{FieldNumber, digits, alone, decimal, value}

@@ -9,7 +9,7 @@ use borrow.Author.Tests.{ne_eqb}
 use lib.Dec.{eqb}
 use lib.ListN.{length, take, drop, get_or, take-append-drop}
 use lib.Seq.{slice, slice_empty, take-suc, take-take, length-take-le, drop-append-le}
-use Rattle.base.specs.Choice.{if◌then◌else◌}
+use Rattle.std.specs.Prelude.{if◌then◌else◌}
 use Rattle.session_reading.specs.Reading.{taken, read_from}
 use Rattle.session_reading.specs.Found.{plain, Scanned, Found}
 use Rattle.session_reading.specs.declared.Line.{Line}

@@ -1,7 +1,6 @@
 -- The bytes of a line in a piece of text. Only a line feed (10) ends a line; all other bytes belong to it.
-use Rattle.std.specs.Prelude.{ℕ, ◌≤◌, ◌<◌, ◌≡◌, Bool, true, false, List, [], ◌∷◌, eqb, length, get_or}
+use Rattle.std.specs.Prelude.{ℕ, ◌≤◌, ◌<◌, ◌≡◌, Bool, true, false, List, [], ◌∷◌, eqb, length, get_or, if◌then◌else◌}
 use Rattle.std.proofs.Math.Seq.{slice}
-use Rattle.base.specs.Choice.{if◌then◌else◌}
 use Rattle.session_reading.specs.Reading.{read_from}
 use Rattle.session_reading.specs.declared.Line.{Line}
 use Rattle.session_reading.specs.declared.Reading.{Reading}

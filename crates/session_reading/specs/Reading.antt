@@ -1,7 +1,6 @@
 -- A line read byte after byte: what is kept of it.
-use Rattle.std.specs.Prelude.{ℕ, ◌+◌, ◌*◌, List, [], ◌∷◌, eqb, leb, ltb}
+use Rattle.std.specs.Prelude.{ℕ, ◌+◌, ◌*◌, List, [], ◌∷◌, eqb, leb, ltb, if◌then◌else◌}
 use Rattle.base.specs.Fields.{lowest}
-use Rattle.base.specs.Choice.{if◌then◌else◌}
 use Rattle.session_digits.specs.Digits.{digit_of, hex_of}
 use Rattle.session_reading.specs.declared.Number.{Number}
 use Rattle.session_reading.specs.declared.Number.TheVariants.{WriteOffset, ReadOffset, Code, MinusCode}

@@ -1,6 +1,5 @@
 -- The parts of a line that are read by functions of their own.
-use Rattle.std.specs.Prelude.{ℕ, Bool, true, false, List, eqb}
-use Rattle.base.specs.Choice.{if◌then◌else◌}
+use Rattle.std.specs.Prelude.{ℕ, Bool, true, false, List, eqb, if◌then◌else◌}
 use Rattle.session_reading.specs.Found.{Scanned}
 use Rattle.session_reading.specs.declared.whole.Numeral.{Numeral}
 use Rattle.session_reading.specs.declared.Number.{Number}

@@ -1,5 +1,6 @@
 // A session's record: how it begins, and whether a line of it has begun; and what a command of a line wants of the board.
 #![tactic(auto)]
+
 ghost use Rattle.std.specs.Prelude.{◌≡◌};
 ghost use Rattle.session_talk.specs.Session.{fresh_session, line_begun};
 ghost use Rattle.session_talk.specs.Wanted.{wanted_by};

@@ -8,7 +8,7 @@ use native.Mathlib.Numerals.{add-one}
 use borrow.Author.Tests.{ne_eqb}
 use mathlib.Core.Bool.{Bool, true, false}
 use lib.Dec.{eqb}
-use Rattle.base.specs.Choice.{if◌then◌else◌}
+use Rattle.std.specs.Prelude.{if◌then◌else◌}
 use lib.ListN.{length, set, take, drop, get_or, length-append, length-set, length-drop, drop_of_length-le}
 use lib.Seq.{sets, take-suc, take_all, length-take-le, length-sets}
 use Rattle.session_text.specs.declared.Decimal.{Decimal}

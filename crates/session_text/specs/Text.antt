@@ -1,7 +1,6 @@
 -- Numbers as text (the specification, "The session program": line numbers, "the answer in two or four hex capitals"), and text in a lent slice.
-use Rattle.std.specs.Prelude.{ℕ, zero, suc, ◌+◌, ◌/◌, ◌%◌, ◌≤◌, ◌≡◌, List, [], ◌∷◌, ◌++◌, eqb, length, drop}
+use Rattle.std.specs.Prelude.{ℕ, zero, suc, ◌+◌, ◌/◌, ◌%◌, ◌≤◌, ◌≡◌, List, [], ◌∷◌, ◌++◌, eqb, length, drop, if◌then◌else◌}
 use Rattle.std.proofs.lemmas.List.Edits.{sets}
-use Rattle.base.specs.Choice.{if◌then◌else◌}
 use Rattle.session_digits.specs.Digits.{hex_digit}
 use Rattle.session_text.specs.declared.Decimal.{Decimal}
 

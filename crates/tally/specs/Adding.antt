@@ -1,7 +1,6 @@
 -- Counts that take more and stay at their largest: laws for the theorems over rows of events.
-use Rattle.std.specs.Prelude.{ℕ, ◌+◌, ◌-◌, ◌≤◌, ◌<◌, ◌≡◌, refl, Bool, true, false, List, [], ◌∷◌, ltb}
+use Rattle.std.specs.Prelude.{ℕ, ◌+◌, ◌-◌, ◌≤◌, ◌<◌, ◌≡◌, refl, Bool, true, false, List, [], ◌∷◌, ltb, if◌then◌else◌}
 use Rattle.std.proofs.Common.{sym, ◌∙◌, arith, ltb-true, ltb-false}
-use Rattle.base.specs.Choice.{if◌then◌else◌}
 use Rattle.machine_record.specs.declared.Board.{Board}
 use Rattle.board_stores.specs.Stores.{wrong_lengths}
 use Rattle.board_refusal.specs.Refusals.{checks}

@@ -1,6 +1,5 @@
 -- What the code makes on the way to a tally and to its check: the promises of the functions inside.
-use Rattle.std.specs.Prelude.{ℕ, ◌/◌, ◌%◌, Bool, not, ◌&&◌, eqb}
-use Rattle.base.specs.Choice.{if◌then◌else◌}
+use Rattle.std.specs.Prelude.{ℕ, ◌/◌, ◌%◌, Bool, not, ◌&&◌, eqb, if◌then◌else◌}
 use Rattle.base.specs.Checks.{refusal}
 use Rattle.base.specs.Flags.{flag, nonzero}
 use Rattle.converter.specs.Channels.{end_starts}

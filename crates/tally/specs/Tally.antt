@@ -1,6 +1,5 @@
 -- How a host's tally takes what events count (request M-112): plain counts of 64 bits beside the board, noted before each event with the board as it stands.
-use Rattle.std.specs.Prelude.{ℕ, ◌+◌, ◌-◌, Bool, ◌&&◌, List, [], ◌∷◌, eqb, ltb, replicate}
-use Rattle.base.specs.Choice.{if◌then◌else◌}
+use Rattle.std.specs.Prelude.{ℕ, ◌+◌, ◌-◌, Bool, ◌&&◌, List, [], ◌∷◌, eqb, ltb, replicate, if◌then◌else◌}
 use Rattle.machine_record.specs.declared.Board.{Board}
 use Rattle.board_step.specs.States.{State, after_event}
 use Rattle.board_advance.specs.Advance.{advanced_of}

@@ -1,8 +1,7 @@
 // A tally that a host keeps beside its board: where every sample went, and every conversion (request M-112). `note` is called before each event, with the board
 // as it stands; the board's own record stores none of it. What is counted is defined in tally_counts, how a tally takes it in specs/Tally.antt.
 #![tactic(auto)]
-ghost use Rattle.std.specs.Prelude.{◌≡◌};
-ghost use Rattle.base.specs.Choice.{if◌then◌else◌};
+ghost use Rattle.std.specs.Prelude.{◌≡◌, if◌then◌else◌};
 ghost use Rattle.machine_record.specs.Working.{WorkingMachine};
 ghost use Rattle.tally_counts.specs.Counts.{no_counts, held, counts_of, counts_at};
 ghost use Rattle.tally.specs.Tally.{state_of, plus_up_to, added, noted, noted_ticks};

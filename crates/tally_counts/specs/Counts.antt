@@ -1,8 +1,7 @@
 -- Where every sample went, and every conversion (request M-112): what one event counts, of the board before it, and what a row of events counts. "Each number
 -- is defined by going through the events with the board as it stood before each, not from stored sums. Refused events count nowhere." Which events begin, end
 -- and abandon a conversion is said in board_laws/specs/Begins.antt.
-use Rattle.std.specs.Prelude.{ℕ, ◌+◌, Bool, true, false, not, ◌&&◌, ◌||◌, List, [], ◌∷◌, eqb}
-use Rattle.base.specs.Choice.{if◌then◌else◌}
+use Rattle.std.specs.Prelude.{ℕ, ◌+◌, Bool, true, false, not, ◌&&◌, ◌||◌, List, [], ◌∷◌, eqb, if◌then◌else◌}
 use Rattle.base.specs.Flags.{on, flag, nonzero}
 use Rattle.requests.specs.Registers.{FIFORST}
 use Rattle.machine_record.specs.declared.Board.{Board}

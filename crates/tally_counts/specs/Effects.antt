@@ -1,8 +1,7 @@
 -- What an event does to the samples held, by its offset: laws that join the rows of the bus, which go by the place of an offset, to the definitions of Counts.
-use Rattle.std.specs.Prelude.{ℕ, ◌≤◌, ◌≡◌, Bool, true, false, ◌&&◌, ◌||◌, List, eqb, leb}
+use Rattle.std.specs.Prelude.{ℕ, ◌≤◌, ◌≡◌, Bool, true, false, ◌&&◌, ◌||◌, List, eqb, leb, if◌then◌else◌}
 use Rattle.std.proofs.Math.Path.{refl}
 use Rattle.std.proofs.Common.{arith, eqb-true, ne_eqb, leb-false}
-use Rattle.base.specs.Choice.{if◌then◌else◌}
 use Rattle.fifo.specs.declared.OldestSample.{OldestSample}
 use Rattle.converter.specs.Codes.{sample_of}
 use Rattle.requests.specs.Registers.{FIFORST}

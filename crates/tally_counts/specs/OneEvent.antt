@@ -1,12 +1,11 @@
 -- Both sums over one event, with the board before it and after it: laws for the theorems over rows of events.
-use Rattle.std.specs.Prelude.{ℕ, ◌+◌, ◌-◌, ◌≡◌, Bool, not, ◌&&◌, ◌||◌, List, [], ltb}
+use Rattle.std.specs.Prelude.{ℕ, ◌+◌, ◌-◌, ◌≡◌, Bool, not, ◌&&◌, ◌||◌, List, [], ltb, if◌then◌else◌}
 use Rattle.std.proofs.Math.Path.{refl}
 use Rattle.std.proofs.Common.{sym, subst, eqb-true}
 use Rattle.std.proofs.Math.Bool.{true, false}
 use native.Mathlib.Omega.{arith}
 use Rattle.std.proofs.lemmas.Bool.{eqb-false}
 use Rattle.std.proofs.Math.Dec.{eqb}
-use Rattle.base.specs.Choice.{if◌then◌else◌}
 use Rattle.base.specs.Checks.{refusal}
 use Rattle.base.specs.Flags.{on, flag, nonzero}
 use Rattle.base.specs.Laws.{never, not_not}

@@ -1,12 +1,11 @@
 -- What went is what is counted: after any event the samples held are those before it, but for the oldest, as many as it counts read and cleared, and with its
 -- own sample as the newest where it counts an end and no loss. The step does just this, on every working board; what is refused counts nothing and leaves them.
-use Rattle.std.specs.Prelude.{ℕ, suc, ◌+◌, ◌-◌, ◌≡◌, refl, Bool, not, ◌&&◌, List, [], ◌∷◌, ◌++◌, ℤ, length, take, drop, eqb}
+use Rattle.std.specs.Prelude.{ℕ, suc, ◌+◌, ◌-◌, ◌≡◌, refl, Bool, not, ◌&&◌, List, [], ◌∷◌, ◌++◌, ℤ, length, take, drop, eqb, if◌then◌else◌}
 use Rattle.std.proofs.Common.{sym, ◌∙◌, append-nil, ne_eqb, arith}
 use Rattle.std.proofs.Math.Path.{ap}
 use Rattle.std.proofs.Math.Bool.{true, false}
 use Rattle.std.proofs.Math.Option.{Option, none, some}
 use Rattle.std.proofs.Math.Seq.{drop-length}
-use Rattle.base.specs.Choice.{if◌then◌else◌}
 use Rattle.base.specs.Flags.{flag, nonzero}
 use Rattle.fifo.specs.Samples.{oldest_of, pushed}
 use Rattle.fifo.specs.Queue.{queue}

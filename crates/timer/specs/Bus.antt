@@ -1,7 +1,6 @@
 -- What the bus writes to and reads of the three counters. Data sheet (chapter 19): "Control Word Format", SC. The specification: "A falling OUT1
 -- clocks counter 2, whether a tick or a write caused it."
-use Rattle.std.specs.Prelude.{ℕ, Bool, ◌||◌, eqb}
-use Rattle.base.specs.Choice.{if◌then◌else◌}
+use Rattle.std.specs.Prelude.{ℕ, Bool, ◌||◌, eqb, if◌then◌else◌}
 use Rattle.base.specs.Fields.{field}
 use Rattle.counter_modes.specs.Control.{word_refused}
 use Rattle.counter_one.specs.Counter.{commanded, counter_read, byte_refused, byte_written}

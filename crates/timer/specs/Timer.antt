@@ -1,9 +1,8 @@
 -- Three counters. Manual, 17.1: "Counters 1 and 2 are cascaded together ... The output of counter 1 provides the input for counter 2";
 -- counter 0 has a gate of its own, counters 1 and 2 share one. The specification: "A falling OUT1 clocks counter 2, whether a tick or a write
 -- caused it."
-use Rattle.std.specs.Prelude.{Bool, not, ◌&&◌, ◌||◌}
+use Rattle.std.specs.Prelude.{Bool, not, ◌&&◌, ◌||◌, if◌then◌else◌}
 use Rattle.base.specs.Flags.{on}
-use Rattle.base.specs.Choice.{if◌then◌else◌}
 use Rattle.counter_one.specs.Falls.{fell}
 use Rattle.counter_one.specs.Counter.{unprogrammed, pulsed, gate_moved}
 use Rattle.counter_one.specs.declared.Counter.{Counter}

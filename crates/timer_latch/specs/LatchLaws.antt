@@ -1,10 +1,9 @@
 -- What the theorem of Latch rests on: what each happening leaves of a counter whose count is latched.
-use Rattle.std.specs.Prelude.{ℕ, ◌/◌, ◌%◌, ◌<◌, ◌≡◌, Bool, ◌&&◌, ◌||◌, List, [], ◌∷◌, ◌++◌}
+use Rattle.std.specs.Prelude.{ℕ, ◌/◌, ◌%◌, ◌<◌, ◌≡◌, Bool, ◌&&◌, ◌||◌, List, [], ◌∷◌, ◌++◌, if◌then◌else◌}
 use Rattle.std.proofs.Common.{arith, sym, ap, ◌∙◌}
 use Rattle.std.proofs.Math.Path.{refl, subst⁻¹}
 use Rattle.std.proofs.Math.Bool.{true, false, not}
 use Rattle.base.specs.Flags.{on}
-use Rattle.base.specs.Choice.{if◌then◌else◌}
 use Rattle.base.specs.Fields.{field}
 use Rattle.base.specs.Laws.{by_choice, never, both, not_true, under_and}
 use Rattle.counter_modes.specs.Control.{command, setup_of, word_refused}

@@ -1,6 +1,5 @@
 -- The analog input ranges (manual, chapter 9.2, the table "Analog Input Ranges"; the register is Base + 11).
-use Rattle.std.specs.Prelude.{◌≡◌, refl, List, [], ◌∷◌, map, ℕ, ◌^◌, get_or}
-use Rattle.base.specs.Choice.{if◌then◌else◌}
+use Rattle.std.specs.Prelude.{◌≡◌, refl, List, [], ◌∷◌, map, ℕ, ◌^◌, get_or, if◌then◌else◌}
 use Rattle.base.specs.Fields.{bit, field}
 
 pub data Polarity : Type 0 where

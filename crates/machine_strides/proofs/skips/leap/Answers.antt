@@ -1,0 +1,17 @@
+-- `machine_strides::skips::leap` meets its contract, by a law for each way out. Assumes nothing. Written by tools/ways.py.
+use Rattle.machine_strides.proofs.Parts as parts
+use Rattle.machine_strides.proofs.skips.leap.Goals as goal
+
+pub leap_counter-t-requires : goal.leap_counter-t-requires
+leap_counter-t-requires c = c.requires.timer.counter0
+
+pub leap_counter-t-requires-2 : goal.leap_counter-t-requires-2
+leap_counter-t-requires-2 c = c.requires.timer.counter1
+
+pub returns : goal.returns
+returns c =
+    parts.leapt_of c.args.counting
+    c.args.g c.args.l
+    c.args.ticks c.pulses_0-p0.ensures
+    c.leap_counter-t.ensures c.divider_after.ensures c.divider_after-2.ensures
+    c.pulses_1-p1.ensures c.leap_counter-t-2.ensures
