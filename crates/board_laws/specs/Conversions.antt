@@ -52,9 +52,9 @@ pub counter0-same : (b : Board) → (counter0_ticked (dividers_ticked b)).conver
 unfolding counter0_ticked dividers_ticked
 counter0-same b = timer-moved_same _ _ (out2-stays b.clocks.timer _ _)
 
-din0_same : (b : Board) (n : ℕ) (fallen : Bool) → (din0_clocked (din_moved b n) fallen).converter ≡ b.converter
+din0_same : (b : Board) (n : ℕ) (fell : Bool) → (din0_clocked (din_moved b n) fell).converter ≡ b.converter
 unfolding din0_clocked din_moved
-din0_same b n fallen = timer-moved_same _ _ (out2-stays _ _ _)
+din0_same b n fell = timer-moved_same _ _ (out2-stays _ _ _)
 
 -- ---- what begins a conversion starts it on the selected channel
 -- the trigger by a timer that goes to t

@@ -1,6 +1,7 @@
 // Reads of the guest: each makes its checks in their order, finds the place once, and there refuses, or shows and does what a read of that place shows
 // and does (specs/Registers.antt of bus). `c` is the record as it becomes.
 #![tactic(auto)]
+
 ghost use Rattle.std.specs.Prelude.{◌≡◌};
 ghost use Rattle.board_step.specs.Step.{step_of, memory_after, eeprom_after};
 ghost use Rattle.board_events.specs.declared.Event.TheVariants.{ReadByte, ReadWord};

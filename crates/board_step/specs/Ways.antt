@@ -20,7 +20,8 @@ use Rattle.board_events.specs.declared.Event.{Event}
 
 -- what the contract of each kind of event says
 abbrev pub Promised : Board → List ℕ → List ℕ → Event → Outcome → List ℕ → List ℕ → Type 0
-Promised b m e ev r m' e' = (r ≡ step_of b m e ev) × ((m' ≡ memory_after b m e ev) × (e' ≡ eeprom_after b m e ev))
+Promised b m e ev r m' e' =
+    record { value : r ≡ step_of b m e ev; memory_after : m' ≡ memory_after b m e ev; eeprom_after : e' ≡ eeprom_after b m e ev }
 
 -- both checks before the event's own were passed
 pub record Opened (b : Board) (m e : List ℕ) : Type 0 where
@@ -55,26 +56,32 @@ module _ (b : Board) (m e : List ℕ) (ev : Event) where
   -- refused by 2
   pub wrong : wrong_lengths m e ≡ true → Promised b m e ev (record { board = b; answer = Refused 2 }) m e
   unfolding step_of memory_after eeprom_after checks
-  wrong h = (rw h, (rw h, rw h))
+  wrong h = record { value = rw h; memory_after = rw h; eeprom_after = rw h }
 
   -- refused by 1
   pub broken : {w : Bool} → wrong_lengths m e ≡ false → w ≡ is_working_board b m → not w ≡ true
       → Promised b m e ev (record { board = b; answer = Refused 1 }) m e
   unfolding step_of memory_after eeprom_after checks
-  broken {w} l k h = let f : is_working_board b m ≡ false = sym k ∙ not_true w h in (rw (l, f), (rw (l, f), rw (l, f)))
+  broken {w} l k h = let f : is_working_board b m ≡ false = sym k ∙ not_true w h in
+      record { value = rw (l, f); memory_after = rw (l, f); eeprom_after = rw (l, f) }
 
   -- refused by a check of the event's own
   pub refused : {n : ℕ} → Opened b m e → refusal (event_checks b ev) ≡ n → eqb n 0 ≡ false
       → Promised b m e ev (record { board = b; answer = Refused n }) m e
   unfolding step_of memory_after eeprom_after checks
-  refused o k z = (rw (o.long, o.working, k, z), (rw (o.long, o.working, k, z), rw (o.long, o.working, k, z)))
+  refused o k z =
+      record { value = rw (o.long, o.working, k, z); memory_after = rw (o.long, o.working, k, z); eeprom_after = rw (o.long, o.working, k, z) }
 
   -- not refused
   pub done : {r : Outcome} {m' e' : List ℕ} → Opened b m e → refusal (event_checks b ev) ≡ 0 → Did (ran_from b m e ev) r m' e'
       → Promised b m e ev r m' e'
   unfolding step_of memory_after eeprom_after checks
   done o k d =
-      (rw (o.long, o.working, k) d.outcome, (rw (o.long, o.working, k) d.memory, rw (o.long, o.working, k) d.eeprom))
+      record {
+        value = rw (o.long, o.working, k) d.outcome;
+        memory_after = rw (o.long, o.working, k) d.memory;
+        eeprom_after = rw (o.long, o.working, k) d.eeprom;
+      }
 
 -- a test that the code made, in a definition's choice
 pub chosen : {A : Type 0} {t x : Bool} (i j : A) → t ≡ x → t ≡ true → (if x then i else j) ≡ i

@@ -1,6 +1,7 @@
 // A byte written by the guest: the checks in their order; then the place is found once, and there the write is refused, or does what a write of that place
 // does (specs/Registers.antt of bus). `c` is the record as it becomes.
 #![tactic(auto)]
+
 ghost use Rattle.std.specs.Prelude.{◌≡◌};
 ghost use Rattle.board_step.specs.Step.{step_of, memory_after, eeprom_after};
 ghost use Rattle.board_events.specs.declared.Event.TheVariants.{WriteByte};

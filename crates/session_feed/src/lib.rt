@@ -1,6 +1,7 @@
 // A session: the text of standard input, fed piece by piece, and what is printed for it. The state is a record by value; what is printed is
 // written to a lent slice.
 #![tactic(auto)]
+
 ghost use Rattle.std.specs.Prelude.{◌<◌, ◌≤◌, ◌-◌, length};
 ghost use Rattle.session_talk.specs.Session.{talk_of};
 ghost use Rattle.session_feed.specs.Feeding.{FeedsOn, Feeds};

@@ -1,5 +1,6 @@
 // One line that was read is answered.
 #![tactic(auto)]
+
 ghost use Rattle.std.specs.Prelude.{◌-◌, ◌≤◌, length};
 ghost use Rattle.session_talk.specs.Session.{talk_of};
 ghost use Rattle.session_line.specs.Done.{Done, Happened, NotCommanded};
