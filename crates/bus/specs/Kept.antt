@@ -2,6 +2,7 @@
 use Rattle.std.specs.Prelude.{ℕ, refl}
 use Rattle.std.proofs.Common.{arith}
 use Rattle.converter.specs.Working as converter
+use Rattle.converter.proofs.Working as converter_proved
 use Rattle.converter.specs.Channels.{software_trigger}
 use Rattle.requests.specs.Working as requests
 use Rattle.outputs.specs.Laws as outputs
@@ -34,7 +35,7 @@ same b w = w
 
 pub register-keeps : (p : Place) → Keeps (register_at p)
 unfolding register_at
-register-keeps Base0 = (λ b v w. converter-kept b w _ (converter.triggered-works b.converter (software_trigger b.converter) w.converter), same)
+register-keeps Base0 = (λ b v w. converter-kept b w _ (converter_proved.triggered-works b.converter (software_trigger b.converter) w.converter), same)
 register-keeps Base1 = (λ b v w. registers-kept b w _ (record { page = w.registers.page; dout = omega arith; range = w.registers.range }), same)
 register-keeps Base2 = (λ b v w. converter-kept b w _ (converter.low-works b.converter v w.converter), same)
 register-keeps Base3 = (λ b v w. converter-kept b w _ (converter.high-works b.converter v w.converter), same)
