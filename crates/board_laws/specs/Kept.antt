@@ -29,8 +29,8 @@ use Rattle.machine_pins.specs.Kept.{din-works, latch-works, port-works}
 use Rattle.machine_record.specs.declared.Board.{Board}
 use Rattle.machine_record.specs.declared.Jumpers.{Jumpers}
 use Rattle.bus.specs.Place.{place_of}
-use Rattle.bus.specs.Kept.{written-works}
-use Rattle.bus.specs.Kept.{read-works}
+use Rattle.bus.proofs.Kept.{written-works}
+use Rattle.bus.proofs.Kept.{read-works}
 use Rattle.board_refusal.specs.Working.{WorkingBoard}
 use Rattle.board_refusal.specs.Refusals.{event_checks}
 use Rattle.board_step.specs.Sampled.{effect-works, effect-holds}

@@ -82,12 +82,3 @@ register-keeps CalAddress = (λ b v w. calibration-kept b w _ (calibration.addre
 register-keeps CalBase14 = (λ b v w. calibration-kept b w _ (calibration.control-works b.calibration v w.calibration), same)
 register-keeps CalBase15 = (λ b v w. calibration-kept b w _ (calibration.key-works b.calibration v w.calibration), same)
 register-keeps Outside = (λ b v w. w, same)
-
--- read off the row
-pub written-works : (b : Board) (p : Place) (v : ℕ) → WorkingMachine b → WorkingMachine (written_at b p v)
-unfolding written_at
-written-works b p v w = (register-keeps p).0 b v w
-
-pub read-works : (b : Board) (p : Place) → WorkingMachine b → WorkingMachine (after_read b p)
-unfolding after_read
-read-works b p w = (register-keeps p).1 b w

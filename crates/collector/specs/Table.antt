@@ -123,37 +123,6 @@ abbrev pub given : List Row → Phase → Kind → Access
 given [] p k = NoAccess 0
 given (r ∷ rs) p k = if is r p k then r.next else given rs p k
 
-in_table : (c : Collector) (a : BusAnswer) (p : Phase) (r : Taken) → phase_of c.phase ≡ p → Step c a p r
-    → access_in (phase_of r.collector.phase) r.collector.settings ≡ given (table c.settings) p (kind_in p c a)
-unfolding phase_of
-in_table c a Stop r q stopped = refl
-in_table c a Poll r q (poll_no_byte e) = rw (e, q)
-in_table c a Poll r q (poll-free e t) = rw (e, t)
-in_table c a Poll r q (poll-again e t l) = rw (e, t, l)
-in_table c a Poll r q (poll-last e t l) = rw (e, t, l)
-in_table c a Range r q ranged = refl
-in_table c a Clear r q cleared = refl
-in_table c a Low r q lowered = refl
-in_table c a High r q raised = refl
-in_table c a Go r q went = refl
-in_table c a Look r q (look_no_byte e) = rw (e, q)
-in_table c a Look r q (look-empty e t) = rw (e, t, q)
-in_table c a Look r q (look-full e t l) = rw (e, t, l)
-in_table c a Look r q (look-few e t l) = rw (e, t, l)
-in_table c a Take r q (taken word i) = rw i
-in_table c a Take r q (take_nothing i) = rw (i, q)
-in_table c a Drain r q (drained word i e) = rw (i, e)
-in_table c a Drain r q (closed word i e) = rw (i, e)
-in_table c a Drain r q (drain_nothing i) = rw (i, q)
-in_table c a Stuck r q stands = rw q
-in_table c a Unknown r q s = elim s [ ]
-
--- The theorem: whatever a fit collector's phase and whatever comes of an access that the board serves, its next access is the one that the table gives.
-pub next-access : (c : Collector) (a : BusAnswer) → served a ≡ true → FitCollector c
-    → access_of (replied c a).collector ≡ given (table c.settings) (phase_of c.phase) (kind_in (phase_of c.phase) c a)
-next-access c a t w =
-    access-fit (replied c a).collector (replied-fit c w a) ∙ in_table c a (phase_of c.phase) (replied c a) refl (step c a t w)
-
 -- Where the board refuses the access, any record stays, and so the same access is named again.
 pub named_again : (c : Collector) (n : ℕ) → (replied c (bus.Refused n)).collector ≡ c
 named_again c n = by (fit c) refl
