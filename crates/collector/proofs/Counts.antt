@@ -1,21 +1,17 @@
 -- Theorems that rest on theorems of specs/Counts.antt, and promise as those do. What specs/Counts.antt says of itself:
 -- How a step counts polls, and what it leaves of settings and polls; the laws of specs/History.antt are made of these.
-use Rattle.std.specs.Prelude.{ℕ, ◌+◌, ◌≤◌, ◌<◌, ◌≡◌, refl, Bool, true, false, ◌&&◌, eqb, if◌then◌else◌}
-use Rattle.std.proofs.Common.{ap, arith}
+use Rattle.std.specs.Prelude.{ℕ, ◌+◌, ◌≡◌, refl, Bool, true, false, eqb, if◌then◌else◌}
+use Rattle.std.proofs.Common.{ap}
 use Rattle.collector_phases.specs.declared.Collector.{Collector}
-use Rattle.samples.specs.declared.Sample.{Sample}
 use Rattle.collector_phases.specs.declared.Phase.{Phase}
 use Rattle.collector_phases.specs.declared.Phase.TheVariants.{Stop, Poll, Range, Clear, Low, High, Go, Look, Take, Drain, Stuck, Unknown}
-use Rattle.collector_phases.specs.declared.Access.{Access}
-use Rattle.collector_phases.specs.declared.Access.TheVariants.{WriteByte, ReadByte, ReadWord, NoAccess}
 use Rattle.collector_answers.specs.declared.BusAnswer.{BusAnswer}
 use Rattle.collector_answers.specs.Answers.{served}
 use Rattle.collector_steps.specs.declared.Handed.{Handed}
-use Rattle.collector_steps.specs.declared.Handed.TheVariants.{Nothing, StartEnd, OneSample, LastSample, Refused}
+use Rattle.collector_steps.specs.declared.Handed.TheVariants.{Refused}
 use Rattle.collector_steps.specs.declared.Taken.{Taken}
-use Rattle.collector_phases.specs.Phases.{phase_of, access_in, reads}
+use Rattle.collector_phases.specs.Phases.{phase_of, access_in}
 use Rattle.collector_phases.specs.Fit.{FitIn}
-use Rattle.collector_records.specs.Records.{first_record}
 use Rattle.collector.specs.Steps.{Step, Reply, stepped, stays}
 use Rattle.collector.specs.Steps.{stopped, poll_no_byte, poll-free, poll-again, poll-last, ranged, cleared, lowered, raised, went}
 use Rattle.collector.specs.Steps.{look_no_byte, look-empty, look-full, look-few, taken, take_nothing, drained, closed, drain_nothing, stands}

@@ -2,26 +2,22 @@
 -- The polls and the history (the specification, "The collector": "The polls reported equal the reads of offset 8 made since this start
 -- whose answers were taken. A restart counts anew"; "How firm the contracts are": "It shuts out an invented poll count, since that equals
 -- reads in the history").
-use Rattle.std.specs.Prelude.{ℕ, ◌≤◌, ◌≡◌, true}
-use Rattle.std.proofs.Math.Path.{refl, sym, ap}
-use Rattle.std.proofs.Common.{◌∙◌, subst}
+use Rattle.std.specs.Prelude.{◌≡◌, true}
+use Rattle.std.proofs.Math.Path.{refl, ap}
+use Rattle.std.proofs.Common.{◌∙◌}
 use Rattle.collector_settings.specs.declared.Settings.{Settings}
 use Rattle.collector_phases.specs.declared.Collector.{Collector}
 use Rattle.samples.specs.declared.Sample.{Sample}
-use Rattle.collector_phases.specs.declared.Access.{Access}
 use Rattle.collector_answers.specs.declared.BusAnswer.{BusAnswer}
-use Rattle.collector_answers.specs.Answers.{served}
 use Rattle.collector_records.specs.declared.Started.TheVariants.{Begun}
 use Rattle.collector_steps.specs.declared.Handed.TheVariants.{LastSample}
-use Rattle.collector_steps.specs.declared.Taken.{Taken}
 use Rattle.collector_phases.specs.Phases.{phase_of}
-use Rattle.collector_phases.specs.Fit.{FitSettings, FitCollector}
+use Rattle.collector_phases.specs.Fit.{FitSettings}
 use Rattle.collector_records.specs.Records.{first_record, start_of}
-use Rattle.collector_phases.specs.Accesses.{access_of}
 use Rattle.collector_replies.specs.Reply.{replied}
 use Rattle.collector.specs.Steps.{reply, access-fit}
-use Rattle.collector.specs.Kept.{begun-fit, started-begun, replied-fit}
-use Rattle.collector.specs.Counts.{counted_on, underway, reply-holds, reply-within, reply-begins}
+use Rattle.collector.specs.Kept.{started-begun}
+use Rattle.collector.specs.Counts.{underway, reply-holds}
 use Rattle.collector.proofs.Counts.{reply-counts}
 use Rattle.collector.specs.History.{Brought, after_answers, begin, fit-after, gap_restarts, history_of, polls_since, ◌then◌, ◌▸◌}
 

@@ -4,27 +4,19 @@
 -- reads handed over, a gap marked with the last, start again"; of a look, request M-108: "goes by EF first, FF next, and reads nothing else"; of a
 -- word read, request M-100: told "nothing", "it keeps its record"). It covers every phase of a fit collector and whatever came of its access, so of
 -- a look each of the 256 bytes; and none handles its first look and idles afterwards.
-use Rattle.std.specs.Prelude.{ℕ, ◌≡◌, refl, Bool, true, false, ◌&&◌, List, [], ◌∷◌, eqb, leb, if◌then◌else◌}
-use Rattle.std.proofs.Common.{sym, ap, ◌∙◌}
-use Rattle.base.specs.Laws.{never}
-use Rattle.collector_settings.specs.declared.Settings.{Settings}
+use Rattle.std.specs.Prelude.{◌≡◌, refl, true}
+use Rattle.std.proofs.Common.{◌∙◌}
 use Rattle.collector_phases.specs.declared.Collector.{Collector}
 use Rattle.collector_phases.specs.declared.Phase.{Phase}
 use Rattle.collector_phases.specs.declared.Phase.TheVariants.{Stop, Poll, Range, Clear, Low, High, Go, Look, Take, Drain, Stuck, Unknown}
-use Rattle.collector_phases.specs.declared.Access.{Access}
-use Rattle.collector_phases.specs.declared.Access.TheVariants.{WriteByte, ReadByte, ReadWord, NoAccess}
 use Rattle.collector_steps.specs.declared.Taken.{Taken}
-use Rattle.collector_settings.specs.Settings.{clock_byte}
-use Rattle.collector_phases.specs.Phases.{phase_number, phase_of, access_in}
+use Rattle.collector_phases.specs.Phases.{phase_of, access_in}
 use Rattle.collector_answers.specs.declared.BusAnswer.{BusAnswer}
-use Rattle.collector_answers.specs.declared.BusAnswer.TheVariants as bus
-use Rattle.collector_answers.specs.Answers.{served, is_nothing, wide, no_byte, brings, STS, EF, FF}
-use Rattle.collector_phases.specs.Fit.{FitCollector, fit}
-use Rattle.collector_replies.specs.Joined.{fit_of}
-use Rattle.collector_refusals.specs.Refusals.{last_poll}
+use Rattle.collector_answers.specs.Answers.{served}
+use Rattle.collector_phases.specs.Fit.{FitCollector}
 use Rattle.collector_phases.specs.Accesses.{access_of}
 use Rattle.collector_replies.specs.Reply.{replied}
-use Rattle.collector.specs.Steps.{Step, step, Reply, stepped, stays, reply, access-fit, reply-unfit}
+use Rattle.collector.specs.Steps.{Step, step, access-fit}
 use Rattle.collector.specs.Steps.{stopped, poll_no_byte, poll-free, poll-again, poll-last, ranged, cleared, lowered, raised, went}
 use Rattle.collector.specs.Steps.{look_no_byte, look-empty, look-full, look-few, taken, take_nothing, drained, closed, drain_nothing, stands}
 use Rattle.collector.specs.Kept.{replied-fit}

@@ -1,6 +1,6 @@
 -- How a step counts polls, and what it leaves of settings and polls; the laws of specs/History.antt are made of these.
 use Rattle.std.specs.Prelude.{ℕ, ◌+◌, ◌≤◌, ◌<◌, ◌≡◌, refl, Bool, true, false, ◌&&◌, eqb, if◌then◌else◌}
-use Rattle.std.proofs.Common.{ap, arith}
+use Rattle.std.proofs.Common.{arith}
 use Rattle.collector_phases.specs.declared.Collector.{Collector}
 use Rattle.samples.specs.declared.Sample.{Sample}
 use Rattle.collector_phases.specs.declared.Phase.{Phase}
@@ -8,11 +8,10 @@ use Rattle.collector_phases.specs.declared.Phase.TheVariants.{Stop, Poll, Range,
 use Rattle.collector_phases.specs.declared.Access.{Access}
 use Rattle.collector_phases.specs.declared.Access.TheVariants.{WriteByte, ReadByte, ReadWord, NoAccess}
 use Rattle.collector_answers.specs.declared.BusAnswer.{BusAnswer}
-use Rattle.collector_answers.specs.Answers.{served}
 use Rattle.collector_steps.specs.declared.Handed.{Handed}
 use Rattle.collector_steps.specs.declared.Handed.TheVariants.{Nothing, StartEnd, OneSample, LastSample, Refused}
 use Rattle.collector_steps.specs.declared.Taken.{Taken}
-use Rattle.collector_phases.specs.Phases.{phase_of, access_in, reads}
+use Rattle.collector_phases.specs.Phases.{phase_of, reads}
 use Rattle.collector_phases.specs.Fit.{FitIn}
 use Rattle.collector_records.specs.Records.{first_record}
 use Rattle.collector.specs.Steps.{Step, Reply, stepped, stays}

@@ -1,6 +1,6 @@
 -- The collector's answers in the specification's numbers: of a start, of a question for the access and of an answer it is the number of the
 -- first check that holds, 0 where none does. And a start ends with its last write.
-use Rattle.std.specs.Prelude.{ℕ, ◌≡◌, refl, Bool, true, false, not, ◌&&◌, List, [], ◌∷◌, eqb, leb, if◌then◌else◌}
+use Rattle.std.specs.Prelude.{ℕ, ◌≡◌, refl, Bool, true, false, not, List, [], ◌∷◌, eqb, leb, if◌then◌else◌}
 use Rattle.std.proofs.Common.{sym, eqb-true}
 use Rattle.base.specs.Checks.{Check, ◌refuses◌, refusal}
 use Rattle.base.specs.Laws.{by_choice}
@@ -18,16 +18,12 @@ use Rattle.collector_records.specs.Records.{first_record, start_of}
 use Rattle.collector_refusals.specs.Refusals.{answer_checks}
 use Rattle.collector_answers.specs.declared.BusAnswer.{BusAnswer}
 use Rattle.collector_answers.specs.declared.BusAnswer.TheVariants as bus
-use Rattle.collector_answers.specs.Answers.{served}
 use Rattle.collector_steps.specs.declared.Handed.TheVariants.{Refused}
 use Rattle.collector_steps.specs.declared.Taken.{Taken}
 use Rattle.collector_steps.specs.Reads.{reports}
 use Rattle.collector_replies.specs.Joined.{fit_of}
 use Rattle.collector_replies.specs.Reply.{after_write, after_number, answered, staying, decided, replied}
-use Rattle.collector.specs.Handed.{start_number, access_number, handed_refusal, start_ends, is_go, is-go}
-use Rattle.collector.specs.Steps.{Step, Reply, stepped, stays, reply, access-fit, reply-unfit, access-unfit}
-use Rattle.collector.specs.Steps.{stopped, poll_no_byte, poll-free, poll-again, poll-last, ranged, cleared, lowered, raised, went}
-use Rattle.collector.specs.Steps.{look_no_byte, look-empty, look-full, look-few, taken, take_nothing, drained, closed, drain_nothing, stands}
+use Rattle.collector.specs.Handed.{start_number, access_number, handed_refusal}
 
 -- ---- a start: 14, 11, 12, 13
 pub start-number : (s : Settings) → start_number (start_of s) ≡ start_refusal s

@@ -14,19 +14,15 @@ use Rattle.collector_phases.specs.declared.Access.{Access}
 use Rattle.collector_phases.specs.declared.Access.TheVariants.{WriteByte, ReadByte, ReadWord, NoAccess}
 use Rattle.collector_steps.specs.declared.Taken.{Taken}
 use Rattle.collector_settings.specs.Settings.{clock_byte}
-use Rattle.collector_phases.specs.Phases.{phase_number, phase_of, access_in}
+use Rattle.collector_phases.specs.Phases.{phase_number, phase_of}
 use Rattle.collector_answers.specs.declared.BusAnswer.{BusAnswer}
 use Rattle.collector_answers.specs.declared.BusAnswer.TheVariants as bus
 use Rattle.collector_answers.specs.Answers.{served, is_nothing, wide, no_byte, brings, STS, EF, FF}
-use Rattle.collector_phases.specs.Fit.{FitCollector, fit}
+use Rattle.collector_phases.specs.Fit.{fit}
 use Rattle.collector_replies.specs.Joined.{fit_of}
 use Rattle.collector_refusals.specs.Refusals.{last_poll}
-use Rattle.collector_phases.specs.Accesses.{access_of}
 use Rattle.collector_replies.specs.Reply.{replied}
-use Rattle.collector.specs.Steps.{Step, step, Reply, stepped, stays, reply, access-fit, reply-unfit}
-use Rattle.collector.specs.Steps.{stopped, poll_no_byte, poll-free, poll-again, poll-last, ranged, cleared, lowered, raised, went}
-use Rattle.collector.specs.Steps.{look_no_byte, look-empty, look-full, look-few, taken, take_nothing, drained, closed, drain_nothing, stands}
-use Rattle.collector.specs.Kept.{replied-fit}
+use Rattle.collector.specs.Steps.{Reply, stepped, stays, reply, reply-unfit}
 
 -- the kinds of answer
 pub data Kind : Type 0 where

@@ -7,8 +7,8 @@ use Rattle.base.specs.Fields.{lowest}
 use Rattle.session_digits.specs.Digits.{digit_of, hex_of}
 use Rattle.session_commands.specs.Command.{FieldNumber, first, others, digits, alone, decimal, up_to, value, command_of}
 use Rattle.session_commands.specs.Command.FieldNumber.{none, some}
-use Rattle.session_reading.specs.Reading.{minus_taken, number_ended, begun_taken, digit_taken, first_hex_taken, second_hex_taken, taken, read_from}
-use Rattle.session_commands.specs.Ends.{command_read, is_begun}
+use Rattle.session_reading.specs.Reading.{minus_taken, begun_taken, digit_taken, first_hex_taken, second_hex_taken, taken, read_from}
+use Rattle.session_commands.specs.Ends.{command_read}
 use Rattle.session_commands.specs.declared.Command.TheVariants.{NoCommand}
 use Rattle.session_reading.specs.declared.Number.{Number}
 use Rattle.session_reading.specs.declared.Number.TheVariants.{WriteOffset, ReadOffset, Code, MinusCode}

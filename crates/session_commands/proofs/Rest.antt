@@ -1,19 +1,12 @@
 -- Theorems that rest on theorems of specs/Rest.antt, and promise as those do. What specs/Rest.antt says of itself:
 -- What the rest of a line means after what was read of it: at the line's end, after a space, and after its first byte.
-use Rattle.std.specs.Prelude.{◌≡◌, refl, Bool, true, false, List, [], ◌∷◌, ℕ, ◌+◌, ◌*◌, eqb, leb, ltb, if◌then◌else◌}
+use Rattle.std.specs.Prelude.{◌≡◌, refl, Bool, true, false, List, [], ◌∷◌, ℕ, eqb, if◌then◌else◌}
 use Rattle.std.proofs.Common.{ap, ◌∙◌, eqb-true}
-use Rattle.base.specs.Fields.{lowest}
-use Rattle.session_digits.specs.Digits.{digit_of, hex_of}
-use Rattle.session_commands.specs.Command.{minus, FieldNumber, digits, alone, decimal, up_to, negated, code, value, write_at, read_at, end_with, command_in}
-use Rattle.session_commands.specs.Command.FieldNumber.{none, some}
-use Rattle.session_reading.specs.Reading.{first_taken, taken}
-use Rattle.session_commands.specs.Ends.{command_read}
-use Rattle.session_commands.specs.declared.Command.{Command}
-use Rattle.session_commands.specs.declared.Command.TheVariants.{WriteByte, ReadByte, ReadWord, EndConversion, NoCommand}
-use Rattle.session_reading.specs.declared.Number.{Number}
-use Rattle.session_reading.specs.declared.Number.TheVariants.{WriteOffset, ReadOffset, Code, MinusCode}
-use Rattle.session_reading.specs.declared.Reading.{Reading}
-use Rattle.session_reading.specs.declared.Reading.TheVariants.{Blank, Letter, Begun, Zero, Digits, Offset, HalfValue, Whole, Single, Spoiled}
+use Rattle.session_commands.specs.Command.{decimal, up_to, value, write_at, command_in}
+use Rattle.session_reading.specs.Reading.{first_taken}
+use Rattle.session_commands.specs.declared.Command.TheVariants.{NoCommand}
+use Rattle.session_reading.specs.declared.Number.TheVariants.{WriteOffset, ReadOffset, Code}
+use Rattle.session_reading.specs.declared.Reading.TheVariants.{Letter, Single, Spoiled}
 use Rattle.session_commands.specs.Rest.{Letters, meaning}
 
 -- ---- another byte

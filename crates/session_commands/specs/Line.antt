@@ -1,19 +1,13 @@
 -- A line read byte after byte asks for what its fields ask for, whatever its length and its bytes.
-use Rattle.std.specs.Prelude.{◌≡◌, refl, Bool, true, false, ◌&&◌, List, [], ◌∷◌, ℕ, ◌+◌, ◌*◌, ◌%◌, ◌<◌, eqb, leb, ltb, if◌then◌else◌}
-use Rattle.std.proofs.Common.{ap, sym, ◌∙◌, mod-eq_of_lt, arith, eqb-true, leb-false, ltb-true}
-use Rattle.std.proofs.lemmas.Bool.{lt-leb}
+use Rattle.std.specs.Prelude.{◌≡◌, refl, Bool, true, false, ℕ, ◌+◌, ◌*◌, eqb, leb, ltb, if◌then◌else◌}
 use Rattle.base.specs.Fields.{lowest}
 use Rattle.session_digits.specs.Digits.{digit_of, hex_of}
-use Rattle.session_commands.specs.Command.{FieldNumber, first, others, digits, alone, decimal, up_to, value, command_of}
-use Rattle.session_commands.specs.Command.FieldNumber.{none, some}
-use Rattle.session_reading.specs.Reading.{minus_taken, number_ended, begun_taken, digit_taken, first_hex_taken, second_hex_taken, taken, read_from}
-use Rattle.session_commands.specs.Ends.{command_read, is_begun}
-use Rattle.session_commands.specs.declared.Command.TheVariants.{NoCommand}
+use Rattle.session_reading.specs.Reading.{minus_taken, number_ended, taken}
+use Rattle.session_commands.specs.Ends.{is_begun}
 use Rattle.session_reading.specs.declared.Number.{Number}
 use Rattle.session_reading.specs.declared.Number.TheVariants.{WriteOffset, ReadOffset, Code, MinusCode}
 use Rattle.session_reading.specs.declared.Reading.{Reading}
 use Rattle.session_reading.specs.declared.Reading.TheVariants.{Blank, Letter, Begun, Zero, Digits, Offset, HalfValue, Whole, Single, Spoiled}
-use Rattle.session_commands.specs.Rest.{numbered, first_digit, half, last, meaning, no_number, read-end, read_space}
 
 -- ---- a line that has a byte
 if_begun : (t : Bool) (a b : Reading) → is_begun a ≡ true → is_begun b ≡ true → is_begun (if t then a else b) ≡ true

@@ -1,11 +1,10 @@
 -- What the rest of a line means after what was read of it: at the line's end, after a space, and after its first byte.
-use Rattle.std.specs.Prelude.{◌≡◌, refl, Bool, true, false, List, [], ◌∷◌, ℕ, ◌+◌, ◌*◌, eqb, leb, ltb, if◌then◌else◌}
-use Rattle.std.proofs.Common.{ap, ◌∙◌, eqb-true}
+use Rattle.std.specs.Prelude.{◌≡◌, refl, Bool, true, false, List, [], ◌∷◌, ℕ, ◌+◌, ◌*◌, leb, ltb, if◌then◌else◌}
 use Rattle.base.specs.Fields.{lowest}
 use Rattle.session_digits.specs.Digits.{digit_of, hex_of}
 use Rattle.session_commands.specs.Command.{minus, FieldNumber, digits, alone, decimal, up_to, negated, code, value, write_at, read_at, end_with, command_in}
 use Rattle.session_commands.specs.Command.FieldNumber.{none, some}
-use Rattle.session_reading.specs.Reading.{first_taken, taken}
+use Rattle.session_reading.specs.Reading.{taken}
 use Rattle.session_commands.specs.Ends.{command_read}
 use Rattle.session_commands.specs.declared.Command.{Command}
 use Rattle.session_commands.specs.declared.Command.TheVariants.{WriteByte, ReadByte, ReadWord, EndConversion, NoCommand}
