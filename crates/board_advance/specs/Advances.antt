@@ -7,7 +7,8 @@ use Rattle.machine_record.specs.declared.Board.{Board}
 use Rattle.board_step.specs.Step.{refusal_of}
 use Rattle.board_step.specs.States.{State, after_event}
 use Rattle.board_step.specs.Ways.{Opened, opens}
-use Rattle.board_step.specs.Ticked.{ticked_board, tick-step, tick-opens}
+use Rattle.board_step.specs.Ticked.{ticked_board, tick-opens}
+use Rattle.board_step.proofs.Ticked.{tick-step}
 use Rattle.board_events.specs.declared.Answer.TheVariants.{Refused, Done}
 use Rattle.board_events.specs.declared.Event.TheVariants.{Tick}
 use Rattle.board_step.specs.News.{news}

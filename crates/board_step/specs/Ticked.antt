@@ -18,10 +18,6 @@ use Rattle.board_events.specs.declared.Event.TheVariants.{Tick}
 abbrev pub ticked_board : Board → Board
 ticked_board b = ticked_to b (clocks_ticked b.registers.counting (gates b) b.clocks)
 
-pub tick-step : (b : Board) (m e : List ℕ) → Opened b m e → Promised b m e Tick (record { board = ticked_board b; answer = Done }) m e
-unfolding event_checks ran acted eeprom_acted
-tick-step b m e o = done b m e Tick o refl (record { outcome = rw (tick_of b); memory = laid o; eeprom = refl })
-
 -- and it is a working board's
 pub tick-works : (b : Board) (m : List ℕ) → WorkingBoard b m → WorkingBoard (ticked_board b) m
 tick-works b m w = record { machine = subst WorkingMachine (tick_of b) (ticked-works b w.machine); fifo = w.fifo }
