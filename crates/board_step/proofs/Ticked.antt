@@ -1,17 +1,12 @@
 -- Theorems that rest on theorems of specs/Ticked.antt, and promise as those do. What specs/Ticked.antt says of itself:
 -- A tick of a working board that is not refused: what it leaves.
 use Rattle.std.specs.Prelude.{refl, List, ℕ}
-use Rattle.std.proofs.Common.{subst}
 use Rattle.machine_record.specs.declared.Board.{Board}
-use Rattle.machine_clock.specs.Clock.{gates}
-use Rattle.machine_tick.specs.InPlace.{clocks_ticked, ticked_to, tick_of}
-use Rattle.machine_tick.specs.Kept.{ticked-works}
-use Rattle.machine_record.specs.Working.{WorkingMachine}
+use Rattle.machine_tick.specs.InPlace.{tick_of}
 use Rattle.board_refusal.specs.Refusals.{event_checks}
-use Rattle.board_refusal.specs.Working.{WorkingBoard, board-to}
 use Rattle.board_step.specs.Act.{acted, eeprom_acted}
 use Rattle.board_step.specs.Step.{ran}
-use Rattle.board_step.specs.Ways.{Promised, Opened, working, laid, done}
+use Rattle.board_step.specs.Ways.{Promised, Opened, laid, done}
 use Rattle.board_events.specs.declared.Answer.TheVariants.{Done}
 use Rattle.board_events.specs.declared.Event.TheVariants.{Tick}
 use Rattle.board_step.specs.Ticked.{ticked_board}

@@ -17,7 +17,7 @@ use Rattle.machine_clock.specs.Clock.{gates}
 use Rattle.machine_clock.specs.Kept.{timer-moved_by_works, counting-works}
 use Rattle.machine_reset.specs.Kept.{misc_works}
 use Rattle.bus.specs.Rows.{Register}
-use Rattle.bus.specs.Registers.{register_at, written_at, after_read}
+use Rattle.bus.specs.Registers.{register_at}
 use Rattle.bus.specs.declared.Place.{Place}
 use Rattle.bus.specs.declared.Place.TheVariants.{Base0, Base1, Base2, Base3, Base4, Base5, Base6, Base7}
 use Rattle.bus.specs.declared.Place.TheVariants.{Base8, Base9, Base10, Base11, Count, ControlWord, PortData, PortControl}

@@ -11,7 +11,8 @@ use Rattle.board_step.specs.Ticked.{ticked_board, tick-opens}
 use Rattle.board_step.specs.Ways.{Opened}
 use Rattle.board_advance.specs.Advance.{advanced_from, advanced_of}
 use Rattle.board_advance.specs.Advances.{tick-state, one-tick}
-use Rattle.board_advance.specs.Strided.{begins_in, begun_in}
+use Rattle.board_advance.specs.Strided.{begins_in}
+use Rattle.board_advance.proofs.Strided.{begun_in}
 use Rattle.board_advance.specs.declared.Advanced.{Advanced}
 use Rattle.board_laws.specs.Begins.{begins, ends, resets}
 use Rattle.tally_counts.specs.Counts.{no_counts, reads, loses, clears, counts_of, counts_at, together, counts_in}
