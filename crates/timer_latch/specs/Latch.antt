@@ -43,15 +43,14 @@ module _ (c : Chip) (s : Select) (m : Mode) (u : Unread m (counter_of c.timer s)
   pub bytes_read_lem : (byte_now (chip_after c (to_first_read s x a)) s ≡ (counter_of c.timer s).count.element % 256)
       × (byte_now (chip_after c (to_second_read s x a b)) s ≡ (counter_of c.timer s).count.element / 256)
   bytes_read_lem =
-      let v = (counter_of c.timer s).count.element in
-      (
+      let v = (counter_of c.timer s).count.element in (
         first_byte m v (chip_after c (to_first_read s x a)).timer s held-to_first,
         second-byte m v (chip_after c (to_second_read s x a b)).timer s held-to_second,
       )
 
   -- so the two bytes are that count, whatever came before and between them
-  pub count-read : byte_now (chip_after c (to_first_read s x a)) s + 256 * byte_now (chip_after c (to_second_read s x a b)) s
-      ≡ (counter_of c.timer s).count.element
+  pub count-read :
+      byte_now (chip_after c (to_first_read s x a)) s + 256 * byte_now (chip_after c (to_second_read s x a b)) s ≡ (counter_of c.timer s).count.element
   count-read = omega (arith, bytes_read_lem)
 
   -- "The count is then unlatched automatically": the next latch command finds the counter as this one did
