@@ -65,8 +65,8 @@ def line_of(crate, pair):
 
 
 def changed(crate, wrong):
-    """The parts that a wrong answer changes: of a function, its promise too where that is what changes."""
-    places = {(crate.at(p.file, line_of(crate, p)), line_of(crate, p)) for p in wrong.pairs}
+    """The parts that a wrong answer changes: of a function, its promise too where that is what changes. A function's own answers are no part."""
+    places = {(crate.at(p.file, line_of(crate, p)), line_of(crate, p)) for p in wrong.pairs if not crate.owner(p.file)}
     parts = {part for part, _ in places} - {None}
     return parts | {promise_of(part) for part, line in places if part in crate.functions and line < crate.body_line(part)}
 
@@ -100,6 +100,6 @@ def keeps_shape(crate, wrong):
     """Whether a proof of the right code fits the changed code still: operands, constants and tests may change, and promises and definitions, but no operation."""
     for p in wrong.pairs:
         part = crate.at(p.file, line_of(crate, p))
-        if part in crate.functions and line_of(crate, p) >= crate.body_line(part) and operations(p.old) != operations(p.new):
+        if part in crate.functions and not crate.owner(p.file) and line_of(crate, p) >= crate.body_line(part) and operations(p.old) != operations(p.new):
             return False
     return True

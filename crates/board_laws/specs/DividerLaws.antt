@@ -62,7 +62,7 @@ module _ (s : State) (w : Works s) where
       }
 
   ticked-to : (after_event s Tick).board ≡ ticked_board s.board
-  ticked-to = ap (λ (o : Outcome). o.board) (sym (tick-step s.board s.memory s.eeprom opened).0)
+  ticked-to = ap (λ (o : Outcome). o.board) (sym (tick-step s.board s.memory s.eeprom opened).value)
 
   pub counter_1 : (after_event s Tick).board.clocks.timer.counter1
       ≡ pulsed_if (clock1 counting (next_tick s.board.clocks.hundred 99)) s.board.clocks.timer.counter1 (gates s.board).gate12

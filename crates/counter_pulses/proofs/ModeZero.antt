@@ -1,7 +1,7 @@
 -- Theorems that rest on theorems of specs/ModeZero.antt, and promise as those do. What specs/ModeZero.antt says of itself:
 -- Mode 0 over any number of CLK pulses. Data sheet (manual, chapter 19), "Mode 0: Interrupt on Terminal Count". What is said holds of every counter that is
 -- programmed in mode 0, with any count, flags and bytes before: nothing else is asked of it. A count n of bytes is a number of 16 bits (SignalLaws,
--- whole-word).
+-- whole_word).
 use Rattle.std.specs.Prelude.{◌≡◌, ℕ, ◌+◌, ◌*◌, ◌<◌, Bool, true, false, leb, List, ◌∷◌, nat_le, nat_lt, refl}
 use Rattle.std.proofs.Common.{arith, sym, ap, ◌∙◌}
 use Rattle.base.specs.Flags.{on}

@@ -1,6 +1,6 @@
 -- Mode 2 over any number of CLK pulses. Data sheet (manual, chapter 19), "Mode 2: Rate Generator". What is said holds of every counter that is programmed in
 -- mode 2, with any count, flags and bytes but for what is named. A working counter has no 1 to load; a count of bytes is a number of 16 bits (SignalLaws,
--- whole-word).
+-- whole_word).
 use Rattle.std.specs.Prelude.{◌≡◌, ℕ, suc, ◌+◌, ◌%◌, ◌<◌, Bool, true, false, not, ◌||◌, [], ◌∷◌, ◌==◌, ◌≢◌, refl}
 use Rattle.std.proofs.Common.{sym, ap, ◌∙◌}
 use Rattle.base.specs.Flags.{on}

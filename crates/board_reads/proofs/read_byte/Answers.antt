@@ -1,4 +1,4 @@
--- `board_reads::read_byte` meets its contract, by a law for each way out. Assumes nothing. Written by tools/ways.py.
+-- `board_reads::read_byte` meets its contract, by a law for each way out. Assumes nothing.
 use Rattle.std.proofs.Common.{ap, not}
 use borrow.Author.Rules.{rules}
 use mathlib.Core.Path.{refl, ap, ◌∙◌}

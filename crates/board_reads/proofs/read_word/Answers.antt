@@ -1,4 +1,4 @@
--- `board_reads::read_word` meets its contract, by a law for each way out. Assumes nothing. Written by tools/ways.py.
+-- `board_reads::read_word` meets its contract, by a law for each way out. Assumes nothing.
 use Rattle.std.proofs.Common.{ap, not}
 use borrow.Author.Rules.{rules}
 use Rattle.board_reads.proofs.Arms as arms

@@ -1,5 +1,5 @@
--- `counter_pulses::count_on` meets its contract, by a law for each way out. Assumes nothing. Written by tools/ways.py.
-use Rattle.std.proofs.Common.{arith}
+-- `counter_pulses::count_on` meets its contract, by a law for each way out. Assumes nothing.
+use Rattle.std.proofs.Common.{arith, rules}
 use Rattle.counter_pulses.proofs.Parts as parts
 use Rattle.counter_pulses.proofs.count_on.Goals as goal
 

@@ -1,4 +1,4 @@
--- `counter_pulses::pace_of` meets its contract, by a law for each way out. Assumes nothing. Written by tools/ways.py.
+-- `counter_pulses::pace_of` meets its contract, by a law for each way out. Assumes nothing.
 use Rattle.counter_pulses.proofs.Parts as parts
 use Rattle.counter_pulses.proofs.pace_of.Goals as goal
 

@@ -1,4 +1,4 @@
--- `machine_strides::run` meets its contract, by a law for each way out. Assumes nothing. Written by tools/ways.py.
+-- `machine_strides::run` meets its contract, by a law for each way out. Assumes nothing.
 use native.Mathlib.Omega.{arith}
 use Rattle.machine_strides.proofs.Parts as parts
 use Rattle.machine_strides.proofs.Loops as loops

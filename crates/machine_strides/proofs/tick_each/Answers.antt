@@ -1,4 +1,4 @@
--- `machine_strides::tick_each` meets its contract, by a law for each way out. Assumes nothing. Written by tools/ways.py.
+-- `machine_strides::tick_each` meets its contract, by a law for each way out. Assumes nothing.
 use native.Mathlib.Omega.{arith}
 use Rattle.machine_strides.proofs.Loops as loops
 use Rattle.machine_strides.proofs.tick_each.Goals as goal

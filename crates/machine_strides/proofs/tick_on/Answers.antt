@@ -1,4 +1,4 @@
--- `machine_strides::tick_on` meets its contract, by a law for each way out. Assumes nothing. Written by tools/ways.py.
+-- `machine_strides::tick_on` meets its contract, by a law for each way out. Assumes nothing.
 use mathlib.Core.Path.{sym, ◌∙◌}
 use Rattle.machine_strides.specs.Settled.{are_settled}
 use Rattle.machine_strides.proofs.tick_on.Goals as goal

@@ -1,4 +1,4 @@
--- `machine_tick::tick_clocks` meets its contract, by a law for each way out. Assumes nothing. Written by tools/ways.py.
+-- `machine_tick::tick_clocks` meets its contract, by a law for each way out. Assumes nothing.
 use Rattle.machine_tick.proofs.Clocked.{falls, stays, rests}
 use Rattle.machine_tick.proofs.tick_clocks.Goals as goal
 

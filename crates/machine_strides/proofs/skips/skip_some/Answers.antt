@@ -1,4 +1,4 @@
--- `machine_strides::skips::skip_some` meets its contract, by a law for each way out. Assumes nothing. Written by tools/ways.py.
+-- `machine_strides::skips::skip_some` meets its contract, by a law for each way out. Assumes nothing.
 use Rattle.machine_strides.proofs.Parts as parts
 use Rattle.machine_strides.proofs.skips.skip_some.Goals as goal
 

@@ -1,0 +1,5 @@
+-- `tally::begun_if` meets its contract. Assumes nothing.
+use Rattle.tally.proofs.begun_if.Goals as goal
+
+pub returns : goal.returns
+returns c = simp c.none-c.ensures

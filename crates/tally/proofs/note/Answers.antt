@@ -1,0 +1,6 @@
+-- `tally::note` meets its contract. Assumes nothing.
+use borrow.Author.Rules.{rules}
+use Rattle.tally.proofs.note.Goals as goal
+
+pub returns : goal.returns
+returns c = simp (c.add_all.ensures, c.counts.ensures)
