@@ -11,7 +11,6 @@ use Rattle.fifo.specs.Samples.{oldest_of}
 use Rattle.fifo.specs.Queue.{queue, layout, empty_fifo, pushed_to}
 use Rattle.fifo.specs.Queue.Laws.{clear-works}
 use Rattle.converter.proofs.Working.{ended-works}
-use Rattle.calibration_registers.specs.Laws as calibration
 use Rattle.calibration_end.specs.Laws as ends
 use Rattle.counter_modes.specs.Control.{command, setup_of}
 use Rattle.counter_one.specs.Counter.{gate_moved}
