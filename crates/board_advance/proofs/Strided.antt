@@ -87,13 +87,17 @@ module _ (b : Board) (m e : List ℕ) where
       rw (no_ask b.requests false w refl, no_edge b.converter false (on b.requests.clksel) refl)
   strided-from (suc n) d l o =
       one-tick m e n d (moved_to b l d) o
-      ∙ rw (news-heard (moved_to b l d) (stepped b m e l)) (by (λ k. strided-from n (suc d) (stepped b m e l) k) (heard (heeds0 b) (heeds2 b) l (stepped b m e l)) refl)
+      ∙ rw (news-heard (moved_to b l d) (stepped b m e l))
+      (by (λ k. strided-from n (suc d) (stepped b m e l) k) (heard (heeds0 b) (heeds2 b) l (stepped b m e l)) refl)
     where
-      by : (Opened (moved_to b (stepped b m e l) (suc d)) m e → advanced_from n (suc d) (moved_to b (stepped b m e l) (suc d)) m e ≡ stride_end b (rest b m e n d l))
+      by : (Opened (moved_to b (stepped b m e l) (suc d)) m e
+          → advanced_from n (suc d) (moved_to b (stepped b m e l) (suc d)) m e ≡ stride_end b (rest b m e n d l))
           → (h : Bool) → heard (heeds0 b) (heeds2 b) l (stepped b m e l) ≡ h
           → (if h then record { board = ticked_board (moved_to b l d); progress = record { answer = Done; done = suc d } }
           else advanced_from n (suc d) (ticked_board (moved_to b l d)) m e)
-          ≡ stride_end b (if h then record { clocks = stepped b m e l; done = suc d; fell0 = falls0 l (stepped b m e l); fell2 = falls2 l (stepped b m e l) } else (rest b m e) n d l)
+          ≡ stride_end b
+          (if h then record { clocks = stepped b m e l; done = suc d; fell0 = falls0 l (stepped b m e l); fell2 = falls2 l (stepped b m e l) }
+          else (rest b m e) n d l)
       by on true h = let z : b.outputs.busy - d - 1 ≡ b.outputs.busy - suc d = omega arith in rw z
       by on false h =
           let t = unheard l d (working o).machine.requests.tint h in

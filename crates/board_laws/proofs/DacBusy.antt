@@ -17,6 +17,8 @@ use Rattle.board_laws.specs.DacBusy.{loaded, loaded-works, ticks_left}
 -- ---- a write of 5 that is taken; then any row of events without a reset
 module _ (s : State) (v : ℕ) (taken : refusal_at s (WriteByte 5 v) ≡ 0) (events : List Event) (calm : NoReset events) where
   -- DACBUSY, bit 7 of Base+4 read, is 1 exactly as long as fewer than 100 ticks have come
-  pub dacbusy_for_100_ticks : NoLoad (loaded s v taken events calm) events → bit (value_read (answer_at (after_events (loaded s v taken events calm) events) (ReadByte 4))) 7 ≡ ltb (ticks_in events) 100
+  pub dacbusy_for_100_ticks : NoLoad (loaded s v taken events calm) events
+      → bit (value_read (answer_at (after_events (loaded s v taken events calm) events) (ReadByte 4))) 7 ≡ ltb (ticks_in events) 100
   dacbusy_for_100_ticks l =
-      shown-at_4 (after_events (loaded s v taken events calm) events) (stretch-works (loaded s v taken events calm) (loaded-works s v taken events calm) events) ∙ left_of_100 _ (ticks_in events) (ticks_left s v taken events calm l)
+      shown-at_4 (after_events (loaded s v taken events calm) events) (stretch-works (loaded s v taken events calm) (loaded-works s v taken events calm) events)
+      ∙ left_of_100 _ (ticks_in events) (ticks_left s v taken events calm l)

@@ -23,4 +23,6 @@ module _ (s : State) (v : ℕ) (taken : refusal_at s (WriteByte 5 v) ≡ 0) (eve
   -- each of them is refused by 6
   pub refused-by_6 : (w : ℕ) → ticks_in events < 100 → refusal_at (after_events (loaded s v taken events calm) events) (WriteByte 5 w) ≡ 6
   refused-by_6 w h =
-      busy-refuses (after_events (loaded s v taken events calm) events) w (stretch-works (loaded s v taken events calm) (loaded-works s v taken events calm) events) (omega (arith, h, ticks_left s v taken events calm (no_load-before s v taken events calm h)))
+      busy-refuses (after_events (loaded s v taken events calm) events) w
+      (stretch-works (loaded s v taken events calm) (loaded-works s v taken events calm) events)
+      (omega (arith, h, ticks_left s v taken events calm (no_load-before s v taken events calm h)))

@@ -26,7 +26,8 @@ module _ (j : Jumpers) (zeroscale : Bool) (events : List Event) where
       else (now j zeroscale events).board.clocks.timer.counter1)
   every_100th =
       counter_1 (now j zeroscale events) (now-works j zeroscale events)
-      ∙ ap (λ (h : ℕ). pulsed_if (clock1 (now j zeroscale events).board.registers.counting h) (now j zeroscale events).board.clocks.timer.counter1 (gates (now j zeroscale events).board).gate12)
+      ∙ ap (λ (h : ℕ). pulsed_if (clock1 (now j zeroscale events).board.registers.counting h) (now j zeroscale events).board.clocks.timer.counter1
+      (gates (now j zeroscale events).board).gate12)
       (next_100 (now j zeroscale events).board.clocks.hundred (ticks_in events) (hundred-runs j zeroscale events))
 
 -- ---- n ticks and nothing else

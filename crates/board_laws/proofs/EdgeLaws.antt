@@ -77,7 +77,8 @@ module _ (b : Board) (v : ℕ) (f : Fifo) where
 
   edge_9 : WorkingTimer b.clocks.timer → NoEdge b (WriteByte 9 v) (nine b v f)
   unfolding begins place_of
-  edge_9 w = record { begins-none = refl; no_news = same-news (nine b v f) refl refl; gate-alone = gated_9 w; unclocked = all-unclocked (nine b v f) (gated_9 w) }
+  edge_9 w =
+      record { begins-none = refl; no_news = same-news (nine b v f) refl refl; gate-alone = gated_9 w; unclocked = all-unclocked (nine b v f) (gated_9 w) }
 
   gated_10 : (Gated b v f) (ten b v f)
   unfolding counting_written gates_moved

@@ -43,13 +43,15 @@ module _ (b : Board) (p : ℕ) (m m' e : List ℕ) (ev : Event) (w : WorkingBoar
       leaves : Bool → State
       leaves t = if t then earlier_ran (earlier b p m m' e ev w w' same) ev else (earlier b p m m' e ev w w' same)
 
-      by : (t : Bool) → eqb (earlier_refusal (earlier b p m m' e ev w w' same) ev) 0 ≡ t → Together (earlier b p m m' e ev w w' same) (circle b p m m' e ev w w' same) ev
+      by : (t : Bool) → eqb (earlier_refusal (earlier b p m m' e ev w w' same) ev) 0 ≡ t
+          → Together (earlier b p m m' e ev w w' same) (circle b p m m' e ev w w' same) ev
       by true t =
           record {
             answer = answered b p m m' e ev w w' same t ∙ ap said (sym t);
             after =
                 subst (λ (s : State). Same s (after_event (circle b p m m' e ev w w' same) ev)) (ap leaves (sym t))
-                (subst (λ (s : State). Same (earlier_ran (earlier b p m m' e ev w w' same) ev) s) (sym (left_is b p m m' e ev w w' same t)) (left-same b p m m' e ev w w' same t));
+                (subst (λ (s : State). Same (earlier_ran (earlier b p m m' e ev w w' same) ev) s) (sym (left_is b p m m' e ev w w' same t))
+                (left-same b p m m' e ev w w' same t));
           }
       by false t =
           let k = refused_unchanged (placed b p) m e ev (λ z. eqb-false (earlier_refusal (earlier b p m m' e ev w w' same) ev) 0 t (sym number ∙ z)) in
@@ -64,7 +66,8 @@ module _ (b : Board) (p : ℕ) (m m' e : List ℕ) (ev : Event) (w : WorkingBoar
             answer = ap (λ (o : Outcome). o.answer) k.0 ∙ ap Refused number ∙ ap said (sym t);
             after =
                 subst (λ (s : State). Same s (after_event (circle b p m m' e ev w w' same) ev)) (ap leaves (sym t))
-                (subst (λ (s : State). Same (earlier b p m m' e ev w w' same) s) stays (record { board = refl; samples = same; eeprom = refl; works = w; worked = w' }));
+                (subst (λ (s : State). Same (earlier b p m m' e ev w w' same) s) stays
+                (record { board = refl; samples = same; eeprom = refl; works = w; worked = w' }));
           }
 
 pub same_step : (earlier circle : State) (event : Event) → Same earlier circle → Together earlier circle event

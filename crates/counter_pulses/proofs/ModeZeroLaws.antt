@@ -18,6 +18,7 @@ module _ (k : Counter) {f : Format} (at : setup_of k.control ≡ Programmed f Te
   pub out-loaded : (t v l : ℕ) (g : Bool) (x : List Signal)
       → on (after_signals (with k at s r t v 0 1 l) g x).count.out ≡ nat_le (suc (down r)) (high_pulses_later g x)
   out-loaded t v l g [] = sym (leb-suc-zero (down r))
-  out-loaded t v l g (clk ∷ x) = ap (λ (c : Counter). on (after_signals c g x).count.out) (loads k at s r t v 0 1 l g refl) ∙ out-counted k at s r h 0 r false g x
+  out-loaded t v l g (clk ∷ x) =
+      ap (λ (c : Counter). on (after_signals c g x).count.out) (loads k at s r t v 0 1 l g refl) ∙ out-counted k at s r h 0 r false g x
   out-loaded t v l g (gate i ∷ x) =
       ap (λ (c : Counter). on (after_signals c i x).count.out) (gated k at s r t v false 1 l g i) ∙ out-loaded (flag (on t || false)) v l i x

@@ -5,7 +5,7 @@ use Rattle.std.proofs.Common.{◌∙◌, arith, eq-eqb}
 use Rattle.board_step.specs.States.{State}
 use Rattle.board_laws.specs.Stretches.{after_events}
 use Rattle.tally_counts.specs.Counts.{no_counts, counts_in}
-use Rattle.tally_counts.specs.Sums.{samples_accounted, conversions_accounted}
+use Rattle.tally_counts.proofs.Sums.{samples_accounted, conversions_accounted}
 use Rattle.tally_counts.specs.declared.Tally.{Tally}
 use Rattle.tally.specs.Tally.{largest, plus_up_to, noted_all, adds_up}
 use Rattle.tally.specs.Adding.{Plus, past, within, plus_ways, noted-all}

@@ -48,7 +48,8 @@ module _ {m : Mode} {v : ℕ} {half : Bool} where
 
 -- ---- the counter s of three
 module _ (P : Counter → Type 0) where
-  pub put_has : (t : Timer) (x s : Select) (d : Counter) → P (counter_of t s) → (same_counter s x ≡ true → P (counter_of t x) → P d) → P (counter_of (put t x d) s)
+  pub put_has : (t : Timer) (x s : Select) (d : Counter) → P (counter_of t s) → (same_counter s x ≡ true → P (counter_of t x) → P d)
+      → P (counter_of (put t x d) s)
   put_has t Counter0 Counter0 d p q = q refl p
   put_has t Counter0 Counter1 d p q = p
   put_has t Counter0 Counter2 d p q = p
