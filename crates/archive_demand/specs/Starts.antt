@@ -64,7 +64,11 @@ silent-step c a Clear r s cleared = record { samples = refl; gap = refl }
 silent-step c a Low r s lowered = record { samples = refl; gap = refl }
 silent-step c a High r s raised = record { samples = refl; gap = refl }
 silent-step c a Go r s went = record { samples = refl; gap = refl }
+silent-step c a Look r s _ = elim s [ ]
+silent-step c a Take r s _ = elim s [ ]
+silent-step c a Drain r s _ = elim s [ ]
 silent-step c a Stuck r s stands = record { samples = refl; gap = refl }
+silent-step c a Unknown r s _ = elim s [ ]
 
 -- ---- the phases after a poll that finds no conversion in progress, by the turns since
 abbrev onward : ℕ → Phase

@@ -7,11 +7,14 @@ use Rattle.numbers.specs.declared.WordNumbered.{WordNumbered}
 use Rattle.numbers.specs.declared.AdvancedNumbered.{AdvancedNumbered}
 use Rattle.numbers.specs.Outcomes.{numbered_of, word_numbered, advanced_numbered}
 
-pub in_numbers : {o s : Outcome} {r : Numbered} {A B : Type 0} → r ≡ numbered_of o → (o ≡ s) × (A × B) → (r ≡ numbered_of s) × (A × B)
-in_numbers k p = (k ∙ ap numbered_of p.0, p.1)
+pub in_numbers : {o s : Outcome} {r : Numbered} {A B : Type 0} → r ≡ numbered_of o → record { value : o ≡ s; memory_after : A; eeprom_after : B }
+    → record { value : r ≡ numbered_of s; memory_after : A; eeprom_after : B }
+in_numbers k p = record { value = k ∙ ap numbered_of p.value; memory_after = p.memory_after; eeprom_after = p.eeprom_after }
 
-pub word_in_numbers : {o s : Outcome} {r : WordNumbered} {A B : Type 0} → r ≡ word_numbered o → (o ≡ s) × (A × B) → (r ≡ word_numbered s) × (A × B)
-word_in_numbers k p = (k ∙ ap word_numbered p.0, p.1)
+pub word_in_numbers : {o s : Outcome} {r : WordNumbered} {A B : Type 0} → r ≡ word_numbered o → record { value : o ≡ s; memory_after : A; eeprom_after : B }
+    → record { value : r ≡ word_numbered s; memory_after : A; eeprom_after : B }
+word_in_numbers k p = record { value = k ∙ ap word_numbered p.value; memory_after = p.memory_after; eeprom_after = p.eeprom_after }
 
-pub time_in_numbers : {o s : Advanced} {r : AdvancedNumbered} {A B : Type 0} → r ≡ advanced_numbered o → (o ≡ s) × (A × B) → (r ≡ advanced_numbered s) × (A × B)
-time_in_numbers k p = (k ∙ ap advanced_numbered p.0, p.1)
+pub time_in_numbers : {o s : Advanced} {r : AdvancedNumbered} {A B : Type 0} → r ≡ advanced_numbered o → record { value : o ≡ s; memory_unchanged : A; eeprom_unchanged : B }
+    → record { value : r ≡ advanced_numbered s; memory_unchanged : A; eeprom_unchanged : B }
+time_in_numbers k p = record { value = k ∙ ap advanced_numbered p.value; memory_unchanged = p.memory_unchanged; eeprom_unchanged = p.eeprom_unchanged }

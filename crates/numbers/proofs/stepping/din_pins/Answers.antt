@@ -1,0 +1,6 @@
+-- `numbers::stepping::din_pins` meets its contract. Assumes nothing.
+use Rattle.numbers.proofs.Arms.{in_numbers}
+use Rattle.numbers.proofs.stepping.din_pins.Goals as goal
+
+pub returns : goal.returns
+returns c = in_numbers c.in_numbers.ensures c.din_pins.ensures
