@@ -17,7 +17,7 @@ use Rattle.board_advance.specs.declared.Advanced.{Advanced}
 use Rattle.board_laws.specs.Answers.{answer-number, value_brought, answer-value}
 use Rattle.board_laws.specs.Order.{refusal_bound}
 use Rattle.numbers_answers.specs.Packed.{answer_number, decoded}
-use Rattle.numbers_answers.specs.PackedLaws.{decoded-answer}
+use Rattle.numbers_answers.proofs.PackedLaws.{decoded-answer}
 use Rattle.numbers.specs.Typed.{Recorded, Sixteen}
 use Rattle.numbers.specs.TypedLaws.{value-below}
 
