@@ -19,27 +19,10 @@ use Rattle.board_laws.specs.Order.{refusal_bound}
 use Rattle.numbers_answers.specs.Packed.{answer_number, decoded}
 use Rattle.numbers_answers.proofs.PackedLaws.{decoded-answer}
 use Rattle.numbers.specs.Typed.{Recorded, Sixteen}
-use Rattle.numbers.specs.TypedLaws.{value-below}
 
 -- ---- the answers of steps
 pub step-refusal : (b : Board) (memory eeprom : List ℕ) (ev : Event) → refusal_number (step_of b memory eeprom ev).answer < 32
 step-refusal b memory eeprom ev = omega (arith, answer-number b memory eeprom ev, refusal_bound b memory eeprom ev)
-
--- the number of any step's answer is read as that answer
-pub step-decoded : (b : Board) (memory eeprom : List ℕ) (ev : Event) → Recorded b → Sixteen memory
-    → decoded (answer_number (step_of b memory eeprom ev).answer) ≡ (step_of b memory eeprom ev).answer
-step-decoded b memory eeprom ev r s =
-    decoded-answer (step_of b memory eeprom ev).answer (step-refusal b memory eeprom ev) (value-below b memory eeprom ev r s)
-
--- so is the number that a function over a lent board answers (`dmm32_read_byte` and the others promise `Stepped answer_number`)
-pub lent-decoded : (b b' : Board) (m m' e e' : List ℕ) (ev : Event) (r : ℕ) → Stepped answer_number b m e ev r b' m' e' → Recorded b → Sixteen m
-    → decoded r ≡ (step_of b m e ev).answer
-lent-decoded b b' m m' e e' ev r k w s = ap decoded k.answer ∙ step-decoded b m e ev w s
-
--- "no answer can be taken for another": steps whose answers have one number, of whatever boards and events, have one answer
-pub answers-apart : (b b' : Board) (m m' e e' : List ℕ) (ev ev' : Event) → Recorded b → Recorded b' → Sixteen m → Sixteen m'
-    → answer_number (step_of b m e ev).answer ≡ answer_number (step_of b' m' e' ev').answer → (step_of b m e ev).answer ≡ (step_of b' m' e' ev').answer
-answers-apart b b' m m' e e' ev ev' w w' s s' h = sym (step-decoded b m e ev w s) ∙ ap decoded h ∙ step-decoded b' m' e' ev' w' s'
 
 -- ---- many ticks: their answer is read as it was given too, whatever the record. No tick brings a value
 tick-value : (b : Board) (m e : List ℕ) → value_read (step_of b m e Tick).answer < 65536

@@ -1,7 +1,7 @@
 -- `cowriestep_tally::dmm32_note` meets its contract, by a law for each way out. Assumes nothing. Written by tools/ways.py.
 use borrow.Author.Rules.{rules}
 use Rattle.numbers_events.specs.Events.{event_of}
-use Rattle.tally.specs.Adding.{wrong_lengths-noted}
+use Rattle.tally.proofs.Adding.{wrong_lengths-noted}
 use Rattle.cowriestep_tally.proofs.dmm32_note.Statement.{statement}
 use Rattle.cowriestep_tally.proofs.dmm32_note.Tie as tie
 
