@@ -3,14 +3,13 @@
 -- `Recorded` and `Sixteen`, which all are that a host lends or passes; they bound the value. The refusals of a step are 1 to 10, whatever the board. The code's
 -- own promise (`number_of`) asks nothing of values: there the types bound them.
 use Rattle.std.specs.Prelude.{ℕ, zero, suc, ◌<◌, ◌≡◌, refl, Bool, true, false, List, eqb, if◌then◌else◌}
-use Rattle.std.proofs.Common.{sym, ap, ◌∙◌, arith}
+use Rattle.std.proofs.Common.{arith}
 use Rattle.machine_record.specs.declared.Board.{Board}
 use Rattle.board_events.specs.Answers.{refusal_number, value_read}
 use Rattle.board_events.specs.declared.Answer.TheVariants.{Refused}
 use Rattle.board_events.specs.declared.Event.{Event}
 use Rattle.board_events.specs.declared.Event.TheVariants.{Tick}
 use Rattle.board_step.specs.Step.{refusal_of, step_of, memory_after, eeprom_after}
-use Rattle.board_step.specs.Lent.{Stepped}
 use Rattle.board_step.specs.News.{news}
 use Rattle.board_advance.specs.Advance.{advanced_from, advanced_of}
 use Rattle.board_advance.specs.declared.Advanced.{Advanced}
@@ -18,7 +17,6 @@ use Rattle.board_laws.specs.Answers.{answer-number, value_brought, answer-value}
 use Rattle.board_laws.specs.Order.{refusal_bound}
 use Rattle.numbers_answers.specs.Packed.{answer_number, decoded}
 use Rattle.numbers_answers.proofs.PackedLaws.{decoded-answer}
-use Rattle.numbers.specs.Typed.{Recorded, Sixteen}
 
 -- ---- the answers of steps
 pub step-refusal : (b : Board) (memory eeprom : List ℕ) (ev : Event) → refusal_number (step_of b memory eeprom ev).answer < 32
