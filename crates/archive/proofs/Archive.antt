@@ -25,7 +25,7 @@ use Rattle.archive_demand.specs.Run.{Run, after}
 use Rattle.archive_demand.specs.Log.{brings_by}
 use Rattle.archive_demand.specs.Demand.{word_read, Demand3}
 use Rattle.archive.specs.Real.{real_laws}
-use Rattle.archive_demand.specs.Theorem.{demand3}
+use Rattle.archive_demand.proofs.Theorem.{demand3}
 use Rattle.archive.specs.Archive.{archive}
 
 -- Request M-100: on its own bus the collector is never told "nothing" where a sample is due, whatever the run. No limit is asked of it.

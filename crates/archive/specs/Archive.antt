@@ -24,7 +24,7 @@ use Rattle.archive_demand.specs.Run.{Run, after}
 use Rattle.archive_demand.specs.Log.{brings_by}
 use Rattle.archive_demand.specs.Demand.{word_read, Demand3}
 use Rattle.archive.specs.Real.{real_laws}
-use Rattle.archive_demand.specs.Theorem.{demand3}
+use Rattle.archive_demand.proofs.Theorem.{demand3}
 
 pub archive : (b : Board) (memory eeprom : List ℕ) (settings : Settings) (c : Collector) → WorkingBoard b memory → length eeprom ≡ 128
     → start_of settings ≡ Begun c → Demand3 real words (record { board = lent b memory eeprom; collector = c })

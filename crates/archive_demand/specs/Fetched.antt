@@ -26,10 +26,8 @@ use Rattle.collector.specs.Handed.{samples_of, gap_marked}
 use Rattle.collector.specs.Steps.{Step, same_word}
 use Rattle.collector.specs.Steps.{taken, take_nothing, drained, closed, drain_nothing}
 use Rattle.archive_turns.specs.Machine.{View, Machine}
-use Rattle.archive_turns.specs.Hosts.{words}
 use Rattle.archive_demand.specs.Log.{Log, note_turn, selected}
 use Rattle.archive_demand.specs.Laws.{Laws, Fetches, leaving}
-use Rattle.archive_demand.specs.Laws as view
 use Rattle.collector_records.specs.Records.{follows}
 use Rattle.archive_demand.specs.Phases.{words_of, length_words, Queue, no_loss, Taking, Draining, Fact, FactOf}
 use Rattle.archive_demand.specs.Turns.{handing, running_hand, queue_hand, Oldest, oldest_of_lem}

@@ -10,7 +10,7 @@ use Rattle.collector_phases.specs.Accesses.{access_of}
 use Rattle.collector_replies.specs.Reply.{replied}
 use Rattle.collector_records.specs.Records.{first_record}
 use Rattle.collector.specs.Counts.{reply-holds}
-use Rattle.collector.specs.Steps.{reply, access-fit}
+use Rattle.collector.specs.Steps.{reply}
 use Rattle.collector.specs.Kept.{begun-fit, replied-fit}
 use Rattle.archive_turns.specs.Machine.{Machine}
 use Rattle.archive_turns.specs.declared.Asked.{Asked}
@@ -20,11 +20,9 @@ use Rattle.archive_turns.specs.Turn.{event_of, brought_by, turn_by}
 use Rattle.archive_turns.specs.Hosts.{words}
 use Rattle.archive_demand.specs.World.{event_in}
 use Rattle.archive_demand.specs.Run.{Happening, turn, world, Run, begin, ◌▸◌, System, next, after}
-use Rattle.archive_demand.specs.Log.{Log, note, log}
+use Rattle.archive_demand.specs.Log.{log}
 use Rattle.archive_demand.specs.Laws.{Laws}
 use Rattle.archive_demand.specs.Phases.{FactOf}
-use Rattle.archive_demand.specs.Worlds.{world-kept}
-use Rattle.archive_demand.specs.Kept.{turn-kept}
 
 module _ (M : Machine) (Working : M.Board → Type 0) (laws : Laws M Working) where
   -- the board works, and the collector is fit and has these settings
@@ -50,23 +48,6 @@ module _ (M : Machine) (Working : M.Board → Type 0) (laws : Laws M Working) wh
   unfolding after
   sound t s begin k = k
   sound t s (r ▸ e) k = sound-next t (after M words s r) e (sound t s r k)
-
-  -- the facts of the phase
-  fact-next : (t : Settings) (x : System M) (l : Log) (e : Happening) → Sound t x → FactOf x.collector (M.view x.board) l
-      → FactOf (next M words x e).collector (M.view (next M words x e).board) (note M words x e l)
-  fact-next t x l turn s k =
-      rw (access-fit x.collector s.fit)
-      (turn-kept M Working laws x.board s.works x.collector s.fit l (phase_of x.collector.phase) refl k)
-  fact-next t x l (world w) s k =
-      world-kept x.collector.settings x.collector.next x.collector.left s.fit.settings (M.view x.board) l
-      (M.begins x.board (event_in w)) (M.ends x.board (event_in w)) (M.view (M.stepped x.board (event_in w)))
-      (laws.happens x.board w s.works) (phase_of x.collector.phase) k
-
-  pub facts : (t : Settings) (s : System M) (r : Run) → Sound t s → FactOf s.collector (M.view s.board) (log M words s begin)
-      → FactOf (after M words s r).collector (M.view (after M words s r).board) (log M words s r)
-  unfolding after log
-  facts t s begin a k = k
-  facts t s (r ▸ e) a k = fact-next t (after M words s r) (log M words s r) e (sound t s r a) (facts t s r a k)
 
   -- a start on a working board
   module _ (b : M.Board) (wk : Working b) (t : Settings) (f : FitSettings t) where

@@ -10,15 +10,12 @@ pub mod Worlds
 pub mod Sights
 pub mod Turns
 pub mod Fetched
-pub mod Kept
 pub mod Invariant
 pub mod Yields
 pub mod Told
-pub mod Looked
 pub mod Starts
 pub mod Theorem
 pub mod Small
 pub mod SmallLaws
 pub mod Reads
 pub mod ReadsLaws
-pub mod Polls

@@ -1,83 +1,23 @@
 -- How a turn counts polls: what the theorem of Polls.antt is made of.
-use Rattle.std.specs.Prelude.{ℕ, ◌≡◌, refl, Bool, true, false}
-use Rattle.std.proofs.Common.{◌∙◌}
+use Rattle.std.specs.Prelude.{ℕ, ◌≡◌, Bool, true}
 use Rattle.collector_settings.specs.declared.Settings.{Settings}
 use Rattle.collector_phases.specs.declared.Collector.{Collector}
 use Rattle.collector_phases.specs.Phases.{phase_of}
 use Rattle.collector_phases.specs.Fit.{FitSettings, FitCollector}
 use Rattle.collector_phases.specs.Accesses.{access_of}
-use Rattle.collector_answers.specs.declared.BusAnswer.{BusAnswer}
-use Rattle.collector_answers.specs.declared.BusAnswer.TheVariants as bus
-use Rattle.collector_answers.specs.Answers.{served}
 use Rattle.collector_records.specs.Records.{first_record}
-use Rattle.collector_replies.specs.Reply.{replied}
-use Rattle.collector_steps.specs.declared.Handed.TheVariants as handed
-use Rattle.collector_steps.specs.Reads.{reports}
-use Rattle.collector.specs.Steps.{stays, reply, access-fit}
-use Rattle.collector.specs.Kept.{begun-fit, replied-fit}
-use Rattle.collector.specs.Counts.{counted_on, underway, reply-holds}
-use Rattle.collector.proofs.Counts.{reply-counts}
-use Rattle.archive_turns.specs.declared.Asked.{Asked}
-use Rattle.archive_turns.specs.declared.Asked.TheVariants.{Made, NotMade}
+use Rattle.collector.specs.Counts.{counted_on, underway}
 use Rattle.archive_turns.specs.Machine.{Machine}
-use Rattle.archive_turns.specs.Hosts.{words}
-use Rattle.archive_turns.specs.Turn.{Turning, event_of, brought_by, taken_by, unturned, turn_by}
-use Rattle.archive_demand.specs.Run.{Run, begin, ◌▸◌, turn, world, System, turning, after}
-use Rattle.archive_demand.specs.Log.{asks, brings_by}
-use Rattle.archive_demand.specs.Reads.{is_served, reads_since}
+use Rattle.archive_turns.specs.Turn.{Turning}
+use Rattle.archive_demand.specs.Run.{System}
 
 -- what a turn leaves and reports, n reads having been counted before it
-record TurnCounts {B : Type 0} (c : Collector) (z : Bool) (n : ℕ) (t : Turning B) : Type 0 where
-  left-fit : FitCollector t.collector
-  told : t.polls ≡ counted_on (access_of c) z t.handed n
-  kept-polls : underway (phase_of t.collector.phase) ≡ true → t.collector.polls ≡ t.polls
-
-module _ {B : Type 0} (c : Collector) (w : FitCollector c) (n : ℕ) (k : underway (phase_of c.phase) ≡ true → c.polls ≡ n) (b : B) where
-  -- the collector is told what the access brought
-  brought-counts : (a : BusAnswer) → TurnCounts c (served a) n (taken_by (replied c a) b)
-  brought-counts a =
-      record {
-        left-fit = replied-fit c w a;
-        told = rw (access-fit c w) (reply-counts c w.phase a (replied c a) n k (reply c a w));
-        kept-polls = (reply-holds c w.phase a (replied c a) (reply c a w)).1;
-      }
-
-  -- none is named
-  unturned-counts : (number : ℕ) → TurnCounts c false n (unturned c b number)
-  unturned-counts number =
-      record {
-        left-fit = w;
-        told = rw (access-fit c w) (reply-counts c w.phase (bus.Refused 0) (reports c (handed.Refused number)) n k (stays 0 number));
-        kept-polls = λ u. refl;
-      }
-
-module _ (M : Machine) (c : Collector) (w : FitCollector c) (n : ℕ) (k : underway (phase_of c.phase) ≡ true → c.polls ≡ n) (b : M.Board) where
-  turn-counts : (q : Asked) → TurnCounts c (served (brings_by M b q)) n (turn_by M words q c b)
-  turn-counts (Made ev) = brought-counts c w n k (M.stepped b ev) (brought_by (M.answered b ev))
-  turn-counts (NotMade m) = unturned-counts c w n k b m
+pub record TurnCounts {B : Type 0} (c : Collector) (z : Bool) (n : ℕ) (t : Turning B) : Type 0 where
+  pub left-fit : FitCollector t.collector
+  pub told : t.polls ≡ counted_on (access_of c) z t.handed n
+  pub kept-polls : underway (phase_of t.collector.phase) ≡ true → t.collector.polls ≡ t.polls
 
 -- ---- a run
 module _ (M : Machine) (b : M.Board) (t : Settings) (f : FitSettings t) where
   abbrev pub opening : System M
   opening = record { board = b; collector = first_record t }
-
-  abbrev standing : Run → System M
-  standing r = after M words opening r
-
-  -- the collector is fit, and its record holds the count while a start is under way
-  abbrev Counted : Run → Type 0
-  Counted r =
-      FitCollector (standing r).collector × (underway (phase_of (standing r).collector.phase) ≡ true → (standing r).collector.polls ≡ reads_since M opening r)
-
-  turn-after : (r : Run) → Counted r → TurnCounts (standing r).collector (is_served M (standing r)) (reads_since M opening r) (turning M words (standing r))
-  turn-after r k = turn-counts M (standing r).collector k.0 (reads_since M opening r) k.1 (standing r).board (event_of (asks M words (standing r)))
-
-  counted-after : (r : Run) → Counted r
-  unfolding after reads_since
-  counted-after begin = (begun-fit t f, λ u. refl)
-  counted-after (r ▸ turn) = let k = turn-after r (counted-after r) in (k.left-fit, λ u. k.kept-polls u ∙ k.told)
-  counted-after (r ▸ world v) = counted-after r
-
-  pub reported-after : (r : Run) → (turning M words (standing r)).polls ≡ reads_since M opening (r ▸ turn)
-  unfolding reads_since
-  reported-after r = (turn-after r (counted-after r)).told

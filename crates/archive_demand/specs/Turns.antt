@@ -1,8 +1,7 @@
 -- The collector's turn keeps what holds in each phase. Assumes nothing.
-use Rattle.std.specs.Prelude.{ℕ, ◌+◌, ◌-◌, ◌≤◌, ◌<◌, false, List, [], ◌∷◌, ◌++◌, ◌≡◌, refl, length}
+use Rattle.std.specs.Prelude.{ℕ, ◌≤◌, ◌<◌, false, List, [], ◌∷◌, ◌++◌, ◌≡◌, refl, length}
 use Rattle.std.proofs.Common.{append_assoc, append-nil, sym, ◌∙◌, ap, arith}
 use Rattle.std.proofs.Math.Option.{Option, none, some}
-use Rattle.board_events.specs.declared.Event.TheVariants as event
 use Rattle.converter.specs.Codes.{sample_of}
 use Rattle.collector_phases.specs.declared.Access.{Access}
 use Rattle.collector_settings.specs.declared.Settings.{Settings}
@@ -18,7 +17,6 @@ use Rattle.archive_demand.specs.Chain.{Chain, snoc}
 use Rattle.archive_demand.specs.Phases.{words_of, length_words, CodeFits, Any, Idle, Quiet, Running, Queue, Loss, no_loss, was_full, Looking, Taking}
 use Rattle.archive_demand.specs.Phases.{Draining}
 use Rattle.archive_demand.specs.Ends.{queue_relog}
-use Rattle.archive_demand.specs.Sights.{n}
 
 -- ---- a turn at which nothing is handed over changes the log in `waiting` alone
 abbrev pub rewaiting : Log → Option ℕ → Log

@@ -11,7 +11,7 @@ use Rattle.archive_turns.specs.Machine.{Machine}
 use Rattle.archive_turns.specs.Hosts.{words}
 use Rattle.archive_demand.specs.Run.{Run, ◌▸◌, turn, System, turning, after}
 use Rattle.archive_demand.specs.Reads.{reads_since}
-use Rattle.archive_demand.specs.ReadsLaws.{reported-after}
+use Rattle.archive_demand.proofs.ReadsLaws.{reported-after}
 
 -- A collector that a start gave, on any board, after any run
 module _ (M : Machine) (b : M.Board) (settings : Settings) (c : Collector) (h : start_of settings ≡ Begun c) where

@@ -7,7 +7,7 @@ use Rattle.std.proofs.lemmas.Bool.{lt-leb}
 use Rattle.std.proofs.Math.ListN.{length}
 use Rattle.base.specs.Laws.{never}
 use Rattle.board_events.specs.declared.Event.TheVariants as event
-use Rattle.collector_phases.specs.declared.Access.TheVariants.{WriteByte, ReadByte}
+use Rattle.collector_phases.specs.declared.Access.TheVariants.{WriteByte}
 use Rattle.collector_phases.specs.declared.Collector.{Collector}
 use Rattle.collector_settings.specs.declared.Settings.{Settings}
 use Rattle.collector_steps.specs.declared.Taken.{Taken}
