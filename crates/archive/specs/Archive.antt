@@ -2,27 +2,18 @@
 -- the middle of a scan, with stale samples, OVF set, on any page, with any counters; whatever settings a start takes, whether or not its jumpers
 -- are the board's.
 use Rattle.std.specs.Prelude.{ℕ, List, ◌≡◌, length}
-use Rattle.std.proofs.Common.{sym, ap, subst, ◌∙◌}
-use Rattle.base.specs.Laws.{never}
+use Rattle.std.proofs.Common.{sym, subst}
 use Rattle.machine_record.specs.declared.Board.{Board}
 use Rattle.board_refusal.specs.Working.{WorkingBoard}
-use Rattle.board_events.specs.declared.Answer.TheVariants.{Nothing}
-use Rattle.board_events.specs.declared.Event.TheVariants.{ReadWord}
-use Rattle.collector_answers.specs.Answers.{is_nothing}
-use Rattle.collector_phases.specs.declared.Access.{Access}
 use Rattle.collector_phases.specs.declared.Collector.{Collector}
-use Rattle.collector_phases.specs.Accesses.{access_of}
 use Rattle.collector_settings.specs.declared.Settings.{Settings}
 use Rattle.collector_records.specs.declared.Started.TheVariants.{Begun}
 use Rattle.collector_records.specs.Records.{start_of}
 use Rattle.collector.specs.Kept.{started-begun}
-use Rattle.board_step.specs.States.{State, Works, answer_at}
+use Rattle.board_step.specs.States.{Works}
 use Rattle.archive_turns.specs.Real.{lent, real}
-use Rattle.archive_turns.specs.Turn.{event_of, brought_by}
 use Rattle.archive_turns.specs.Hosts.{words}
-use Rattle.archive_demand.specs.Run.{Run, after}
-use Rattle.archive_demand.specs.Log.{brings_by}
-use Rattle.archive_demand.specs.Demand.{word_read, Demand3}
+use Rattle.archive_demand.specs.Demand.{Demand3}
 use Rattle.archive.specs.Real.{real_laws}
 use Rattle.archive_demand.proofs.Theorem.{demand3}
 
