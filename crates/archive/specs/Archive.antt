@@ -32,12 +32,3 @@ archive b memory eeprom settings c w e h =
     let s = started-begun settings c h in
     subst (λ (d : Collector). Demand3 real words (record { board = lent b memory eeprom; collector = d })) (sym s.0)
     (demand3 real Works real_laws (lent b memory eeprom) (record { working = w; long = e }) settings s.1)
-
--- Request M-100: on its own bus the collector is never told "nothing" where a sample is due, whatever the run. No limit is asked of it.
-pub never-nothing : (b : Board) (memory eeprom : List ℕ) (settings : Settings) (c : Collector) → WorkingBoard b memory → length eeprom ≡ 128
-    → start_of settings ≡ Begun c → (r : Run) → let x = after real words (record { board = lent b memory eeprom; collector = c }) r in
-    access_of x.collector ≡ word_read → answer_at x.board (ReadWord 0) ≡ Nothing → ⊥
-never-nothing b memory eeprom settings c w e h r asked answered =
-    let found = (archive b memory eeprom settings c w e h).finds r asked in
-    let s : State = (after real words (record { board = lent b memory eeprom; collector = c }) r).board in
-    never (sym (ap is_nothing (sym (ap brought_by answered) ∙ sym (ap (λ (x : Access). brings_by real s (event_of x)) asked) ∙ found.1)))

@@ -15,7 +15,8 @@ use Rattle.collector_steps.specs.declared.Handed.TheVariants as handed
 use Rattle.collector_steps.specs.Reads.{reports}
 use Rattle.collector.specs.Steps.{stays, reply, access-fit}
 use Rattle.collector.specs.Kept.{begun-fit, replied-fit}
-use Rattle.collector.specs.Counts.{counted_on, underway, reply-counts, reply-holds}
+use Rattle.collector.specs.Counts.{counted_on, underway, reply-holds}
+use Rattle.collector.proofs.Counts.{reply-counts}
 use Rattle.archive_turns.specs.declared.Asked.{Asked}
 use Rattle.archive_turns.specs.declared.Asked.TheVariants.{Made, NotMade}
 use Rattle.archive_turns.specs.Machine.{Machine}

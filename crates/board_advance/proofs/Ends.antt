@@ -24,7 +24,8 @@ use Rattle.board_refusal.specs.Refusals.{event_checks, checks}
 use Rattle.board_step.specs.Ways.{Opened}
 use Rattle.board_events.specs.declared.Answer.TheVariants.{Refused, Done}
 use Rattle.board_advance.specs.Advance.{advanced_of}
-use Rattle.board_advance.specs.Strided.{heeds0, heeds2, stride_at, stride_end, strided, unheeded, begins_in, begins_in-one}
+use Rattle.board_advance.specs.Strided.{heeds0, heeds2, stride_at, stride_end, unheeded, begins_in, begins_in-one}
+use Rattle.board_advance.proofs.Strided.{strided}
 use Rattle.board_advance.specs.declared.Advanced.{Advanced}
 
 -- ---- the stride

@@ -1,16 +1,14 @@
 -- DACBUSY over whole stretches of events (manual, 14.4 to 14.6, and Base+4 read; the specification, "Registers", 5 and 8, and refusal 6). After a write of 5
 -- that is taken DACBUSY is 1 as long as fewer than 100 ticks have come, so still after the 99th and no longer after the 100th, whatever else happens meanwhile
 -- but a reset, which "ends DACBUSY and drops its load".
-use Rattle.std.specs.Prelude.{ℕ, ◌-◌, ◌<◌, ◌≡◌, true, List, ltb}
-use Rattle.std.proofs.Common.{◌∙◌, arith, lt-ltb}
-use Rattle.base.specs.Fields.{bit}
-use Rattle.board_step.specs.States.{State, Works, refusal_at, answer_at, after_event}
+use Rattle.std.specs.Prelude.{ℕ, ◌-◌, ◌<◌, ◌≡◌, List}
+use Rattle.std.proofs.Common.{arith}
+use Rattle.board_step.specs.States.{State, Works, refusal_at, after_event}
 use Rattle.board_laws.specs.Stretches.{after_events, ticks_in, NoReset, NoLoad}
-use Rattle.board_laws.specs.StretchSteps.{taken-works, works-on, stretch-works}
-use Rattle.board_laws.specs.BusyLaws.{load-busy, busy-refuses, free-takes, busy-left, held-off, left_of_100, shown-at_4}
-use Rattle.board_events.specs.Answers.{value_read}
+use Rattle.board_laws.specs.StretchSteps.{taken-works, works-on}
+use Rattle.board_laws.specs.BusyLaws.{load-busy, free-takes, busy-left, held-off}
 use Rattle.board_events.specs.declared.Event.{Event}
-use Rattle.board_events.specs.declared.Event.TheVariants.{WriteByte, ReadByte}
+use Rattle.board_events.specs.declared.Event.TheVariants.{WriteByte}
 
 -- a working board, with memories of the right lengths, takes a write of 5 while DACBUSY is 0
 pub taken_when_free : (s : State) (v : ℕ) → Works s → s.board.outputs.busy ≡ 0 → refusal_at s (WriteByte 5 v) ≡ 0
@@ -18,30 +16,17 @@ taken_when_free s v w h = free-takes s v w h
 
 -- ---- a write of 5 that is taken; then any row of events without a reset
 module _ (s : State) (v : ℕ) (taken : refusal_at s (WriteByte 5 v) ≡ 0) (events : List Event) (calm : NoReset events) where
-  abbrev loaded : State
+  abbrev pub loaded : State
   loaded = after_event s (WriteByte 5 v)
 
-  loaded-works : Works loaded
+  pub loaded-works : Works loaded
   loaded-works = works-on s (WriteByte 5 v) (taken-works s (WriteByte 5 v) taken)
 
   -- "5 write: loads the output channel, DACBUSY for 100 ticks": each tick takes one of them off, and nothing else does; the row has no further load
   pub ticks_left : NoLoad loaded events → (after_events loaded events).board.outputs.busy ≡ 100 - ticks_in events
   ticks_left l = omega (arith, load-busy s v taken, busy-left loaded loaded-works events calm l)
 
-  -- DACBUSY, bit 7 of Base+4 read, is 1 exactly as long as fewer than 100 ticks have come
-  pub dacbusy_for_100_ticks : NoLoad loaded events → bit (value_read (answer_at (after_events loaded events) (ReadByte 4))) 7 ≡ ltb (ticks_in events) 100
-  dacbusy_for_100_ticks l =
-      shown-at_4 (after_events loaded events) (stretch-works loaded loaded-works events) ∙ left_of_100 _ (ticks_in events) (ticks_left l)
-
   -- "6: write to 4 or 5 while DACBUSY": with fewer than 100 ticks the row may hold any writes of 5, for none of them is taken, so DACBUSY is 1 whatever it
   -- holds
   pub no_load-before : ticks_in events < 100 → NoLoad loaded events
   no_load-before h = held-off loaded loaded-works events calm (omega (arith, h, load-busy s v taken))
-
-  pub set-before_the_100th : ticks_in events < 100 → bit (value_read (answer_at (after_events loaded events) (ReadByte 4))) 7 ≡ true
-  set-before_the_100th h = dacbusy_for_100_ticks (no_load-before h) ∙ lt-ltb (ticks_in events) 100 h
-
-  -- each of them is refused by 6
-  pub refused-by_6 : (w : ℕ) → ticks_in events < 100 → refusal_at (after_events loaded events) (WriteByte 5 w) ≡ 6
-  refused-by_6 w h =
-      busy-refuses (after_events loaded events) w (stretch-works loaded loaded-works events) (omega (arith, h, ticks_left (no_load-before h)))

@@ -9,7 +9,8 @@ use Rattle.machine_record.specs.declared.Board.{Board}
 use Rattle.machine_strides.specs.Lines.{turns, stands, next_in_range}
 use Rattle.board_refusal.specs.Working.{board-to}
 use Rattle.board_step.specs.Ways.{Opened}
-use Rattle.board_step.specs.Ticked.{ticked_board, tick-step}
+use Rattle.board_step.specs.Ticked.{ticked_board}
+use Rattle.board_step.proofs.Ticked.{tick-step}
 use Rattle.board_step.specs.declared.Outcome.{Outcome}
 use Rattle.board_step.specs.States.{State, Works, after_event}
 use Rattle.board_laws.specs.Stretches.{after_events, ticks_of, ticks_in}

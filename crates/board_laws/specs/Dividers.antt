@@ -5,22 +5,22 @@ use Rattle.std.proofs.Common.{ap, ◌∙◌, zero-add}
 use Rattle.base.specs.Fields.{bit}
 use Rattle.counter_one.specs.Counter.{pulsed}
 use Rattle.machine_clock.specs.Clock.{gates}
-use Rattle.machine_tick.specs.Tick.{clock0, clock1}
+use Rattle.machine_tick.specs.Tick.{clock0}
 use Rattle.machine_tick.specs.InPlace.{pulsed_if}
 use Rattle.machine_record.specs.declared.Jumpers.{Jumpers}
 use Rattle.board_step.specs.States.{State, Works, after_event}
 use Rattle.board_laws.specs.Stretches.{after_events, ticks_in, fresh_state}
 use Rattle.board_laws.specs.StretchSteps.{stretch-works, fresh-state_works}
-use Rattle.board_laws.specs.DividerLaws.{run_free, counter_0, counter_1, next_100, next_1000, ticks_in_lem}
+use Rattle.board_laws.specs.DividerLaws.{run_free, counter_0, next_1000}
 use Rattle.board_events.specs.declared.Event.{Event}
 use Rattle.board_events.specs.declared.Event.TheVariants.{Tick}
 
 -- any jumpers, and any row of events since power-up: accesses, pins, resets, refused ones; the ticks among them count
 module _ (j : Jumpers) (zeroscale : Bool) (events : List Event) where
-  abbrev now : State
+  abbrev pub now : State
   now = after_events (fresh_state j zeroscale) events
 
-  now-works : Works now
+  pub now-works : Works now
   now-works = stretch-works (fresh_state j zeroscale) (fresh-state_works j zeroscale) events
 
   -- ---- "run free from power-up"
@@ -29,17 +29,6 @@ module _ (j : Jumpers) (zeroscale : Bool) (events : List Event) where
 
   pub thousand-runs : now.board.clocks.thousand ≡ ticks_in events % 1000
   thousand-runs = (run_free (fresh_state j zeroscale) (fresh-state_works j zeroscale) events).thousand ∙ ap (λ (n : ℕ). n % 1000) (zero-add (ticks_in events))
-
-  -- ---- "and clock on every 100th and 1,000th tick": the tick that comes next brings counter 1 a CLK pulse, always (10 MHz) or, with FREQ12 (bit 7 of
-  -- Base+10), exactly where it is a 100th (100 kHz)
-  pub every_100th : (after_event now Tick).board.clocks.timer.counter1
-      ≡ (if not (bit now.board.registers.counting 7) || eqb ((ticks_in events + 1) % 100) 0
-      then pulsed now.board.clocks.timer.counter1 (gates now.board).gate12
-      else now.board.clocks.timer.counter1)
-  every_100th =
-      counter_1 now now-works
-      ∙ ap (λ (h : ℕ). pulsed_if (clock1 now.board.registers.counting h) now.board.clocks.timer.counter1 (gates now.board).gate12)
-      (next_100 now.board.clocks.hundred (ticks_in events) hundred-runs)
 
   -- and counter 0, unless SRC0 (bit 1) gives it DIN0, always (10 MHz) or, with FREQ0 (bit 6), exactly where it is a 1,000th (10 kHz)
   pub every_1000th : (after_event now Tick).board.clocks.timer.counter0
@@ -53,11 +42,5 @@ module _ (j : Jumpers) (zeroscale : Bool) (events : List Event) where
 
 -- ---- n ticks and nothing else
 module _ (j : Jumpers) (zeroscale : Bool) (n : ℕ) where
-  abbrev ticked : State
+  abbrev pub ticked : State
   ticked = after_events (fresh_state j zeroscale) (replicate n Tick)
-
-  pub after-n_ticks : (ticked.board.clocks.hundred ≡ n % 100) × (ticked.board.clocks.thousand ≡ n % 1000)
-  after-n_ticks = (
-    hundred-runs j zeroscale (replicate n Tick) ∙ ap (λ (k : ℕ). k % 100) (ticks_in_lem n),
-    thousand-runs j zeroscale (replicate n Tick) ∙ ap (λ (k : ℕ). k % 1000) (ticks_in_lem n),
-  )

@@ -10,8 +10,7 @@ use Rattle.base.specs.Checks.{refusal}
 use Rattle.fifo.specs.Samples.{oldest_of}
 use Rattle.fifo.specs.Queue.{queue, layout, empty_fifo, pushed_to}
 use Rattle.fifo.specs.Queue.Laws.{clear-works}
-use Rattle.converter.specs.Working.{ended-works}
-use Rattle.calibration_registers.specs.Laws as calibration
+use Rattle.converter.proofs.Working.{ended-works}
 use Rattle.calibration_end.specs.Laws as ends
 use Rattle.counter_modes.specs.Control.{command, setup_of}
 use Rattle.counter_one.specs.Counter.{gate_moved}
@@ -29,8 +28,8 @@ use Rattle.machine_pins.specs.Kept.{din-works, latch-works, port-works}
 use Rattle.machine_record.specs.declared.Board.{Board}
 use Rattle.machine_record.specs.declared.Jumpers.{Jumpers}
 use Rattle.bus.specs.Place.{place_of}
-use Rattle.bus.specs.Kept.{written-works}
-use Rattle.bus.specs.Kept.{read-works}
+use Rattle.bus.proofs.Kept.{written-works}
+use Rattle.bus.proofs.Kept.{read-works}
 use Rattle.board_refusal.specs.Working.{WorkingBoard}
 use Rattle.board_refusal.specs.Refusals.{event_checks}
 use Rattle.board_step.specs.Sampled.{effect-works, effect-holds}

@@ -21,7 +21,6 @@ pub mod ResetLaws
 pub mod AfterReset
 pub mod Edges
 pub mod EdgeLaws
-pub mod NoEdge
 pub mod StatusLaws
 pub mod Status
 pub mod EarlierBoard

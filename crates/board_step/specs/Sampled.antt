@@ -4,7 +4,8 @@ use Rattle.std.specs.Prelude.{◌≡◌, Bool, true, false, List, ℕ, eqb, if�
 use Rattle.std.proofs.Math.Path.{refl}
 use Rattle.std.proofs.Common.{sym, ap, subst, ◌∙◌}
 use Rattle.fifo.specs.Queue.{queue, layout, WorkingFifo}
-use Rattle.fifo.specs.Queue.Laws.{queue_push, push_works, queue_pop, pop_works, queue-clear, clear-works}
+use Rattle.fifo.specs.Queue.Laws.{queue-clear, clear-works}
+use Rattle.fifo.proofs.Queue.Laws.{queue_push, push_works, queue_pop, pop_works}
 use Rattle.fifo.specs.declared.Fifo.{Fifo}
 use Rattle.fifo.specs.declared.OldestSample.{OldestSample}
 use Rattle.fifo.specs.declared.OldestSample.TheVariants.{NoneHeld, Sample}

@@ -1,26 +1,17 @@
 -- A tick of a working board that is not refused: what it leaves.
-use Rattle.std.specs.Prelude.{refl, List, ℕ}
+use Rattle.std.specs.Prelude.{List, ℕ}
 use Rattle.std.proofs.Common.{subst}
 use Rattle.machine_record.specs.declared.Board.{Board}
 use Rattle.machine_clock.specs.Clock.{gates}
 use Rattle.machine_tick.specs.InPlace.{clocks_ticked, ticked_to, tick_of}
 use Rattle.machine_tick.specs.Kept.{ticked-works}
 use Rattle.machine_record.specs.Working.{WorkingMachine}
-use Rattle.board_refusal.specs.Refusals.{event_checks}
 use Rattle.board_refusal.specs.Working.{WorkingBoard, board-to}
-use Rattle.board_step.specs.Act.{acted, eeprom_acted}
-use Rattle.board_step.specs.Step.{ran}
-use Rattle.board_step.specs.Ways.{Promised, Opened, working, laid, done}
-use Rattle.board_events.specs.declared.Answer.TheVariants.{Done}
-use Rattle.board_events.specs.declared.Event.TheVariants.{Tick}
+use Rattle.board_step.specs.Ways.{Opened, working}
 
 -- the record, its parts changed in place
 abbrev pub ticked_board : Board → Board
 ticked_board b = ticked_to b (clocks_ticked b.registers.counting (gates b) b.clocks)
-
-pub tick-step : (b : Board) (m e : List ℕ) → Opened b m e → Promised b m e Tick (record { board = ticked_board b; answer = Done }) m e
-unfolding event_checks ran acted eeprom_acted
-tick-step b m e o = done b m e Tick o refl (record { outcome = rw (tick_of b); memory = laid o; eeprom = refl })
 
 -- and it is a working board's
 pub tick-works : (b : Board) (m : List ℕ) → WorkingBoard b m → WorkingBoard (ticked_board b) m

@@ -2,6 +2,7 @@
 use Rattle.std.specs.Prelude.{ℕ, refl}
 use Rattle.std.proofs.Common.{arith}
 use Rattle.converter.specs.Working as converter
+use Rattle.converter.proofs.Working as converter_proved
 use Rattle.converter.specs.Channels.{software_trigger}
 use Rattle.requests.specs.Working as requests
 use Rattle.outputs.specs.Laws as outputs
@@ -16,7 +17,7 @@ use Rattle.machine_clock.specs.Clock.{gates}
 use Rattle.machine_clock.specs.Kept.{timer-moved_by_works, counting-works}
 use Rattle.machine_reset.specs.Kept.{misc_works}
 use Rattle.bus.specs.Rows.{Register}
-use Rattle.bus.specs.Registers.{register_at, written_at, after_read}
+use Rattle.bus.specs.Registers.{register_at}
 use Rattle.bus.specs.declared.Place.{Place}
 use Rattle.bus.specs.declared.Place.TheVariants.{Base0, Base1, Base2, Base3, Base4, Base5, Base6, Base7}
 use Rattle.bus.specs.declared.Place.TheVariants.{Base8, Base9, Base10, Base11, Count, ControlWord, PortData, PortControl}
@@ -34,7 +35,7 @@ same b w = w
 
 pub register-keeps : (p : Place) → Keeps (register_at p)
 unfolding register_at
-register-keeps Base0 = (λ b v w. converter-kept b w _ (converter.triggered-works b.converter (software_trigger b.converter) w.converter), same)
+register-keeps Base0 = (λ b v w. converter-kept b w _ (converter_proved.triggered-works b.converter (software_trigger b.converter) w.converter), same)
 register-keeps Base1 = (λ b v w. registers-kept b w _ (record { page = w.registers.page; dout = omega arith; range = w.registers.range }), same)
 register-keeps Base2 = (λ b v w. converter-kept b w _ (converter.low-works b.converter v w.converter), same)
 register-keeps Base3 = (λ b v w. converter-kept b w _ (converter.high-works b.converter v w.converter), same)
@@ -81,12 +82,3 @@ register-keeps CalAddress = (λ b v w. calibration-kept b w _ (calibration.addre
 register-keeps CalBase14 = (λ b v w. calibration-kept b w _ (calibration.control-works b.calibration v w.calibration), same)
 register-keeps CalBase15 = (λ b v w. calibration-kept b w _ (calibration.key-works b.calibration v w.calibration), same)
 register-keeps Outside = (λ b v w. w, same)
-
--- read off the row
-pub written-works : (b : Board) (p : Place) (v : ℕ) → WorkingMachine b → WorkingMachine (written_at b p v)
-unfolding written_at
-written-works b p v w = (register-keeps p).0 b v w
-
-pub read-works : (b : Board) (p : Place) → WorkingMachine b → WorkingMachine (after_read b p)
-unfolding after_read
-read-works b p w = (register-keeps p).1 b w

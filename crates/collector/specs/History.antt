@@ -1,7 +1,7 @@
 -- The polls and the history (the specification, "The collector": "The polls reported equal the reads of offset 8 made since this start
 -- whose answers were taken. A restart counts anew"; "How firm the contracts are": "It shuts out an invented poll count, since that equals
 -- reads in the history").
-use Rattle.std.specs.Prelude.{ℕ, ◌≤◌, ◌≡◌, true}
+use Rattle.std.specs.Prelude.{ℕ, ◌≤◌, ◌≡◌}
 use Rattle.std.proofs.Math.Path.{refl, sym, ap}
 use Rattle.std.proofs.Common.{◌∙◌, subst}
 use Rattle.collector_settings.specs.declared.Settings.{Settings}
@@ -13,14 +13,13 @@ use Rattle.collector_answers.specs.Answers.{served}
 use Rattle.collector_records.specs.declared.Started.TheVariants.{Begun}
 use Rattle.collector_steps.specs.declared.Handed.TheVariants.{LastSample}
 use Rattle.collector_steps.specs.declared.Taken.{Taken}
-use Rattle.collector_phases.specs.Phases.{phase_of}
 use Rattle.collector_phases.specs.Fit.{FitSettings, FitCollector}
 use Rattle.collector_records.specs.Records.{first_record, start_of}
 use Rattle.collector_phases.specs.Accesses.{access_of}
 use Rattle.collector_replies.specs.Reply.{replied}
-use Rattle.collector.specs.Steps.{reply, access-fit}
+use Rattle.collector.specs.Steps.{reply}
 use Rattle.collector.specs.Kept.{begun-fit, started-begun, replied-fit}
-use Rattle.collector.specs.Counts.{counted_on, underway, reply-counts, reply-holds, reply-within, reply-begins}
+use Rattle.collector.specs.Counts.{counted_on, reply-holds, reply-within, reply-begins}
 
 -- ---- the history
 -- what was brought to a collector, in order: numbers, nothing, and refusals of the board
@@ -61,7 +60,7 @@ polls_since (h and e) = counted_on e.access (served e.answer) e.taken.handed (po
 -- ---- the theorems
 -- of a start with fit settings, after any run
 module _ (s : Settings) (f : FitSettings s) where
-  fit-after : (r : Brought) → FitCollector (after_answers (first_record s) r)
+  pub fit-after : (r : Brought) → FitCollector (after_answers (first_record s) r)
   unfolding after_answers
   fit-after begin = begun-fit s f
   fit-after (r ▸ a) = replied-fit (after_answers (first_record s) r) (fit-after r) a
@@ -72,34 +71,11 @@ module _ (s : Settings) (f : FitSettings s) where
   settings-after (r ▸ a) =
       let w = fit-after r in (reply-holds (after_answers (first_record s) r) w.phase a _ (reply (after_answers (first_record s) r) a w)).0 ∙ settings-after r
 
-  reported : (r : Brought) (a : BusAnswer)
-      → (underway (phase_of (after_answers (first_record s) r).phase) ≡ true
-      → (after_answers (first_record s) r).polls ≡ polls_since (history_of (first_record s) r))
-      → (replied (after_answers (first_record s) r) a).polls ≡ polls_since (history_of (first_record s) (r ▸ a))
-  unfolding polls_since history_of
-  reported r a h =
-      let c = after_answers (first_record s) r in
-      let w = fit-after r in
-      rw (access-fit c w) (reply-counts c w.phase a (replied c a) (polls_since (history_of (first_record s) r)) h (reply c a w))
-
-  held : (r : Brought) → underway (phase_of (after_answers (first_record s) r).phase) ≡ true
-      → (after_answers (first_record s) r).polls ≡ polls_since (history_of (first_record s) r)
-  unfolding after_answers polls_since history_of
-  held begin u = refl
-  held (r ▸ a) u =
-      let w = fit-after r in
-      (reply-holds (after_answers (first_record s) r) w.phase a _ (reply (after_answers (first_record s) r) a w)).1 u ∙ reported r a (held r)
-
 -- a run, and another one after it
 infixl 30 ◌then◌
 unfoldable pub ◌then◌ : Brought → Brought → Brought
 r then begin = r
 r then (q ▸ a) = (r then q) ▸ a
-
-after_then : (c : Collector) (r q : Brought) → after_answers c (r then q) ≡ after_answers (after_answers c r) q
-unfolding after_answers ◌then◌
-after_then c r begin = refl
-after_then c r (q ▸ a) = ap (λ (d : Collector). (replied d a).collector) (after_then c r q)
 
 -- A collector that a start gave, after any run of answers
 module _ (s : Settings) (c : Collector) (h : start_of s ≡ Begun c) where
@@ -109,10 +85,6 @@ module _ (s : Settings) (c : Collector) (h : start_of s ≡ Begun c) where
 
   pub same-settings : (r : Brought) → (after_answers c r).settings ≡ s
   same-settings r = let e = started-begun s c h in rw e.0 (settings-after s e.1 r)
-
-  -- the polls reported are the reads of offset 8 made since this start whose answers were taken
-  pub polls_are_reads : (r : Brought) (a : BusAnswer) → (replied (after_answers c r) a).polls ≡ polls_since (history_of c (r ▸ a))
-  polls_are_reads r a = let e = started-begun s c h in rw e.0 (reported s e.1 r a (held s e.1 r))
 
   -- they are at most the limit
   pub polls-within : (r : Brought) (a : BusAnswer) → (replied (after_answers c r) a).polls ≤ s.limit
@@ -130,7 +102,3 @@ module _ (s : Settings) (c : Collector) (h : start_of s ≡ Begun c) where
       let w = always_fit r in
       reply-begins d w.phase a (replied d a) y (reply d a w) g
       ∙ ap (λ (t : Settings). first_record t) (same-settings r) ∙ sym (started-begun s c h).0
-
-  pub counts-anew : (r : Brought) (a : BusAnswer) (y : Sample) → (replied (after_answers c r) a).handed ≡ LastSample y
-      → (q : Brought) (b : BusAnswer) → (replied (after_answers c ((r ▸ a) then q)) b).polls ≡ polls_since (history_of c (q ▸ b))
-  counts-anew r a y g q b = rw (after_then c (r ▸ a) q, gap_restarts r a y g) (polls_are_reads q b)

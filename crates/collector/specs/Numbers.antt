@@ -1,6 +1,6 @@
 -- The collector's answers in the specification's numbers: of a start, of a question for the access and of an answer it is the number of the
 -- first check that holds, 0 where none does. And a start ends with its last write.
-use Rattle.std.specs.Prelude.{ℕ, ◌≡◌, refl, Bool, true, false, not, ◌&&◌, List, [], ◌∷◌, eqb, leb, if◌then◌else◌}
+use Rattle.std.specs.Prelude.{ℕ, ◌≡◌, refl, Bool, true, false, not, List, [], ◌∷◌, eqb, leb, if◌then◌else◌}
 use Rattle.std.proofs.Common.{sym, eqb-true}
 use Rattle.base.specs.Checks.{Check, ◌refuses◌, refusal}
 use Rattle.base.specs.Laws.{by_choice}
@@ -18,16 +18,12 @@ use Rattle.collector_records.specs.Records.{first_record, start_of}
 use Rattle.collector_refusals.specs.Refusals.{answer_checks}
 use Rattle.collector_answers.specs.declared.BusAnswer.{BusAnswer}
 use Rattle.collector_answers.specs.declared.BusAnswer.TheVariants as bus
-use Rattle.collector_answers.specs.Answers.{served}
 use Rattle.collector_steps.specs.declared.Handed.TheVariants.{Refused}
 use Rattle.collector_steps.specs.declared.Taken.{Taken}
 use Rattle.collector_steps.specs.Reads.{reports}
 use Rattle.collector_replies.specs.Joined.{fit_of}
 use Rattle.collector_replies.specs.Reply.{after_write, after_number, answered, staying, decided, replied}
-use Rattle.collector.specs.Handed.{start_number, access_number, handed_refusal, start_ends, is_go, is-go}
-use Rattle.collector.specs.Steps.{Step, Reply, stepped, stays, reply, access-fit, reply-unfit, access-unfit}
-use Rattle.collector.specs.Steps.{stopped, poll_no_byte, poll-free, poll-again, poll-last, ranged, cleared, lowered, raised, went}
-use Rattle.collector.specs.Steps.{look_no_byte, look-empty, look-full, look-few, taken, take_nothing, drained, closed, drain_nothing, stands}
+use Rattle.collector.specs.Handed.{start_number, access_number, handed_refusal}
 
 -- ---- a start: 14, 11, 12, 13
 pub start-number : (s : Settings) → start_number (start_of s) ≡ start_refusal s
@@ -121,43 +117,3 @@ reply-number c a = by (refusal (answer_checks (access_in (phase_of c.phase) c.se
             ≡ (if t then board_number a else n)
         test true = answered-number a p
         test false = refl
-
--- ---- the end of a start: "a start ends with its last write, 9←02 or 03"
-step-ends : (c : Collector) (a : BusAnswer) (p : Phase) (r : Taken) → Step c a p r → start_ends r.handed ≡ is_go (access_in p c.settings)
-step-ends c a Stop r stopped = refl
-step-ends c a Poll r (poll_no_byte e) = refl
-step-ends c a Poll r (poll-free e t) = refl
-step-ends c a Poll r (poll-again e t l) = refl
-step-ends c a Poll r (poll-last e t l) = refl
-step-ends c a Range r ranged = refl
-step-ends c a Clear r cleared = refl
-step-ends c a Low r lowered = refl
-step-ends c a High r raised = refl
-step-ends c a Go r went = sym (is-go (eqb c.settings.clock 0))
-step-ends c a Look r (look_no_byte e) = refl
-step-ends c a Look r (look-empty e t) = refl
-step-ends c a Look r (look-full e t l) = refl
-step-ends c a Look r (look-few e t l) = refl
-step-ends c a Take r (taken word n) = refl
-step-ends c a Take r (take_nothing n) = refl
-step-ends c a Drain r (drained word n e) = refl
-step-ends c a Drain r (closed word n e) = refl
-step-ends c a Drain r (drain_nothing n) = refl
-step-ends c a Stuck r stands = refl
-step-ends c a Unknown r s = elim s [ ]
-
--- the board took it
-pub start-ends : (c : Collector) (a : BusAnswer) → start_ends (replied c a).handed ≡ (served a && is_go (access_of c))
-start-ends c a = by (fit c) refl
-  where
-    in_reply : (a : BusAnswer) (r : Taken) → Reply c a r → start_ends r.handed ≡ (served a && is_go (access_in (phase_of c.phase) c.settings))
-    in_reply a r (stepped _ _ t s) = rw t (step-ends c a (phase_of c.phase) r s)
-    in_reply a r (stays n number) = refl
-
-    none-ends : (t : Bool) → false ≡ (t && false)
-    none-ends true = refl
-    none-ends false = refl
-
-    by : (t : Bool) → fit c ≡ t → start_ends (replied c a).handed ≡ (served a && is_go (access_of c))
-    by true h = rw (access-fit c (fit_of c h)) (in_reply a (replied c a) (reply c a (fit_of c h)))
-    by false h = rw (reply-unfit c a h, access-unfit c h) (none-ends (served a))

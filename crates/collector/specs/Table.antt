@@ -14,19 +14,15 @@ use Rattle.collector_phases.specs.declared.Access.{Access}
 use Rattle.collector_phases.specs.declared.Access.TheVariants.{WriteByte, ReadByte, ReadWord, NoAccess}
 use Rattle.collector_steps.specs.declared.Taken.{Taken}
 use Rattle.collector_settings.specs.Settings.{clock_byte}
-use Rattle.collector_phases.specs.Phases.{phase_number, phase_of, access_in}
+use Rattle.collector_phases.specs.Phases.{phase_number, phase_of}
 use Rattle.collector_answers.specs.declared.BusAnswer.{BusAnswer}
 use Rattle.collector_answers.specs.declared.BusAnswer.TheVariants as bus
 use Rattle.collector_answers.specs.Answers.{served, is_nothing, wide, no_byte, brings, STS, EF, FF}
-use Rattle.collector_phases.specs.Fit.{FitCollector, fit}
+use Rattle.collector_phases.specs.Fit.{fit}
 use Rattle.collector_replies.specs.Joined.{fit_of}
 use Rattle.collector_refusals.specs.Refusals.{last_poll}
-use Rattle.collector_phases.specs.Accesses.{access_of}
 use Rattle.collector_replies.specs.Reply.{replied}
-use Rattle.collector.specs.Steps.{Step, step, Reply, stepped, stays, reply, access-fit, reply-unfit}
-use Rattle.collector.specs.Steps.{stopped, poll_no_byte, poll-free, poll-again, poll-last, ranged, cleared, lowered, raised, went}
-use Rattle.collector.specs.Steps.{look_no_byte, look-empty, look-full, look-few, taken, take_nothing, drained, closed, drain_nothing, stands}
-use Rattle.collector.specs.Kept.{replied-fit}
+use Rattle.collector.specs.Steps.{Reply, stepped, stays, reply, reply-unfit}
 
 -- the kinds of answer
 pub data Kind : Type 0 where
@@ -122,37 +118,6 @@ is r p k = eqb (phase_number r.phase) (phase_number p) && eqb (kind_number r.ans
 abbrev pub given : List Row → Phase → Kind → Access
 given [] p k = NoAccess 0
 given (r ∷ rs) p k = if is r p k then r.next else given rs p k
-
-in_table : (c : Collector) (a : BusAnswer) (p : Phase) (r : Taken) → phase_of c.phase ≡ p → Step c a p r
-    → access_in (phase_of r.collector.phase) r.collector.settings ≡ given (table c.settings) p (kind_in p c a)
-unfolding phase_of
-in_table c a Stop r q stopped = refl
-in_table c a Poll r q (poll_no_byte e) = rw (e, q)
-in_table c a Poll r q (poll-free e t) = rw (e, t)
-in_table c a Poll r q (poll-again e t l) = rw (e, t, l)
-in_table c a Poll r q (poll-last e t l) = rw (e, t, l)
-in_table c a Range r q ranged = refl
-in_table c a Clear r q cleared = refl
-in_table c a Low r q lowered = refl
-in_table c a High r q raised = refl
-in_table c a Go r q went = refl
-in_table c a Look r q (look_no_byte e) = rw (e, q)
-in_table c a Look r q (look-empty e t) = rw (e, t, q)
-in_table c a Look r q (look-full e t l) = rw (e, t, l)
-in_table c a Look r q (look-few e t l) = rw (e, t, l)
-in_table c a Take r q (taken word i) = rw i
-in_table c a Take r q (take_nothing i) = rw (i, q)
-in_table c a Drain r q (drained word i e) = rw (i, e)
-in_table c a Drain r q (closed word i e) = rw (i, e)
-in_table c a Drain r q (drain_nothing i) = rw (i, q)
-in_table c a Stuck r q stands = rw q
-in_table c a Unknown r q s = elim s [ ]
-
--- The theorem: whatever a fit collector's phase and whatever comes of an access that the board serves, its next access is the one that the table gives.
-pub next-access : (c : Collector) (a : BusAnswer) → served a ≡ true → FitCollector c
-    → access_of (replied c a).collector ≡ given (table c.settings) (phase_of c.phase) (kind_in (phase_of c.phase) c a)
-next-access c a t w =
-    access-fit (replied c a).collector (replied-fit c w a) ∙ in_table c a (phase_of c.phase) (replied c a) refl (step c a t w)
 
 -- Where the board refuses the access, any record stays, and so the same access is named again.
 pub named_again : (c : Collector) (n : ℕ) → (replied c (bus.Refused n)).collector ≡ c

@@ -1,6 +1,6 @@
 -- Which triggers and ends begin a conversion, and on which channel (the specification, "Conversions, edges and requests"). The tests are
 -- `trigger_starts` and `end_starts` of Channels; these laws say that after an operation a conversion runs as they say. Assumes nothing.
-use Rattle.std.specs.Prelude.{◌≡◌, refl, Bool, true, false, ◌&&◌, ◌||◌, not, ℕ, if◌then◌else◌}
+use Rattle.std.specs.Prelude.{◌≡◌, refl, Bool, true, false, ℕ, if◌then◌else◌}
 use Rattle.base.specs.Flags.{on}
 use Rattle.converter.specs.declared.channels.Converter.{Converter}
 use Rattle.converter.specs.Channels.{started, idle, trigger_starts, triggered, software_trigger, internal_trigger, external_trigger, end_starts, ended}
@@ -34,17 +34,6 @@ end-begins c h = rw h
 
 pub end-over : (c : Converter) → end_starts c ≡ false → ended c ≡ idle c
 end-over c h = rw h
-
--- a conversion runs after a trigger if one ran or the trigger began it, and after an end if the end began it
-runs : (trigger running : Bool) (c : Converter) → on c.converting ≡ running
-    → on (if trigger && not running then started c else c).converting ≡ running || trigger && not running
-runs true true c e = e
-runs true false c e = refl
-runs false true c e = e
-runs false false c e = e
-
-pub trigger-runs : (c : Converter) (trigger : Bool) → on (triggered c trigger).converting ≡ on c.converting || trigger_starts c trigger
-trigger-runs c trigger = runs trigger (on c.converting) c refl
 
 pub end-runs : (c : Converter) → on (ended c).converting ≡ end_starts c
 end-runs c = by (end_starts c)

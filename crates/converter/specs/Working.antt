@@ -1,10 +1,9 @@
 -- What a working board's converter is (the specification, "What is delivered": every register and channel is within its range).
 use Rattle.std.specs.Prelude.{◌≡◌, refl, List, [], ◌∷◌, Bool, true, false, ℕ, ◌+◌, ◌%◌, ◌≤◌, leb, eqb, if◌then◌else◌}
 use Rattle.std.proofs.Common.{arith, leb-true, leb-false, le-leb}
-use Rattle.base.specs.Laws.{by_choice}
 use Rattle.base.specs.Tests.{all, each, every}
 use Rattle.converter.specs.declared.channels.Converter.{Converter}
-use Rattle.converter.specs.Channels.{next_channel, started, trigger_starts, triggered, end_starts, ended}
+use Rattle.converter.specs.Channels.{next_channel}
 use Rattle.converter.specs.Registers.{written_low, written_high, written_scanen, written_clken, fresh_converter}
 
 pub record WorkingConverter (c : Converter) : Type 0 where
@@ -48,16 +47,6 @@ next_in_range low high selected h = by (eqb selected high) (leb 31 selected) ref
     by true b e = h
     by false true e = omega arith
     by false false e = omega (arith, leb-false 31 selected e)
-
-pub started-works : (c : Converter) → WorkingConverter c → WorkingConverter (started c)
-started-works c w = let n = next_in_range c.low c.high c.selected w.low in omega arith
-
--- of a software trigger and of the clock's too
-pub triggered-works : (c : Converter) (trigger : Bool) → WorkingConverter c → WorkingConverter (triggered c trigger)
-triggered-works c trigger w = by_choice WorkingConverter (trigger_starts c trigger) (started-works c w) w
-
-pub ended-works : (c : Converter) → WorkingConverter c → WorkingConverter (ended c)
-ended-works c w = by_choice WorkingConverter (end_starts c) (started-works c w) (omega arith)
 
 pub low-works : (c : Converter) (byte : ℕ) → WorkingConverter c → WorkingConverter (written_low c byte)
 low-works c byte w = omega arith

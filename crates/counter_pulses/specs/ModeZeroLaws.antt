@@ -16,18 +16,18 @@ use Rattle.counter_bytes.specs.declared.Piece.TheVariants.{First, Whole}
 use Rattle.counter_bytes.specs.declared.Bus.{Bus}
 use Rattle.counter_one.specs.Counter.{pulsed, gate_moved, byte_written}
 use Rattle.counter_one.specs.declared.Counter.{Counter}
-use Rattle.counter_pulses.specs.Signals.{Signal, clk, gate, after_signals, high_pulses, high_pulses_later, any_pulse}
+use Rattle.counter_pulses.specs.Signals.{Signal, clk, gate, after_signals, high_pulses, any_pulse}
 
 module _ (k : Counter) {f : Format} (at : setup_of k.control ≡ Programmed f TerminalCount) (s : Bus) (r : ℕ) where
   -- the counter with other numbers; s is what the bus has written of it, r the count to load
   abbrev pub with : ℕ → ℕ → ℕ → ℕ → ℕ → Counter
   with t v o w l = record { control = k.control; trigger = t; count = record { register = r; element = v; out = o; waiting = w; loaded = l }; bus = s }
 
-  gated : (t v : ℕ) (o : Bool) (w l : ℕ) (g h : Bool) → gate_moved (with t v (flag o) w l) g h ≡ with (flag (on t || false)) v (flag o) w l
+  pub gated : (t v : ℕ) (o : Bool) (w l : ℕ) (g h : Bool) → gate_moved (with t v (flag o) w l) g h ≡ with (flag (on t || false)) v (flag o) w l
   unfolding gate_moved
   gated t v o w l g h = rw (at, on-flag o, or-false o)
 
-  loads : (t v o w l : ℕ) (g : Bool) → on w ≡ true → pulsed (with t v o w l) g ≡ with 0 r 0 0 1
+  pub loads : (t v o w l : ℕ) (g : Bool) → on w ≡ true → pulsed (with t v o w l) g ≡ with 0 r 0 0 1
   unfolding pulsed
   loads t v o w l g e = rw (at, e)
 
@@ -56,7 +56,7 @@ module _ (k : Counter) {f : Format} (at : setup_of k.control ≡ Programmed f Te
             let d : suc (down (down v)) ≡ down v = omega arith in
             rw d (sym (leb-suc-suc (down v) p))
 
-    out-counted : (t v : ℕ) (o : Bool) (g : Bool) (x : List Signal)
+    pub out-counted : (t v : ℕ) (o : Bool) (g : Bool) (x : List Signal)
         → on (after_signals (with t v (flag o) 0 1) g x).count.out ≡ o || nat_le (suc (down v)) (high_pulses g x)
     out-counted t v o g [] = rw (on-flag o, leb-suc-zero (down v), or-false o)
     out-counted t v o true (clk ∷ x) =
@@ -65,14 +65,6 @@ module _ (k : Counter) {f : Format} (at : setup_of k.control ≡ Programmed f Te
     out-counted t v o false (clk ∷ x) = ap (λ (c : Counter). on (after_signals c false x).count.out) (stands t v (flag o)) ∙ out-counted 0 v o false x
     out-counted t v o g (gate i ∷ x) =
         ap (λ (c : Counter). on (after_signals c i x).count.out) (gated t v o 0 1 g i) ∙ out-counted (flag (on t || false)) v o i x
-
-    -- a count that waits is loaded by the first CLK pulse
-    pub out-loaded : (t v l : ℕ) (g : Bool) (x : List Signal)
-        → on (after_signals (with t v 0 1 l) g x).count.out ≡ nat_le (suc (down r)) (high_pulses_later g x)
-    out-loaded t v l g [] = sym (leb-suc-zero (down r))
-    out-loaded t v l g (clk ∷ x) = ap (λ (c : Counter). on (after_signals c g x).count.out) (loads t v 0 1 l g refl) ∙ out-counted 0 r false g x
-    out-loaded t v l g (gate i ∷ x) =
-        ap (λ (c : Counter). on (after_signals c i x).count.out) (gated t v false 1 l g i) ∙ out-loaded (flag (on t || false)) v l i x
 
   -- ---- before a count is written: OUT is low
   pub unloaded : (t v : ℕ) (g : Bool) (x : List Signal) → (after_signals (with t v 0 0 0) g x).count.out ≡ 0

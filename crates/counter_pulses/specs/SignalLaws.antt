@@ -1,8 +1,7 @@
 -- What holds of signals, and of the bytes of a count, in every mode.
-use Rattle.std.specs.Prelude.{◌≡◌, ℕ, zero, suc, ◌+◌, ◌*◌, ◌<◌, Bool, true, false, leb, List, [], ◌∷◌, ◌==◌, nat_le, nat_lt, refl, if◌then◌else◌}
-use Rattle.std.proofs.Common.{arith, sym, ap, ◌∙◌, eqb-true, le-ltb}
-use Rattle.std.proofs.lemmas.Bool.{eqb-false, lt-leb}
-use Rattle.std.proofs.Math.Dec.{leb-suc-suc}
+use Rattle.std.specs.Prelude.{◌≡◌, ℕ, zero, suc, ◌+◌, ◌*◌, ◌<◌, Bool, true, false, List, [], ◌∷◌, ◌==◌, refl, if◌then◌else◌}
+use Rattle.std.proofs.Common.{arith, ap, ◌∙◌, eqb-true}
+use Rattle.std.proofs.lemmas.Bool.{eqb-false}
 use Rattle.base.specs.Flags.{on}
 use Rattle.counter_modes.specs.Control.{command}
 use Rattle.counter_modes.specs.declared.ControlCommand.TheVariants.{Program}
@@ -17,7 +16,7 @@ use Rattle.counter_one.specs.Counter.{programmed, commanded, pulsed, gate_moved}
 use Rattle.counter_one.specs.Pulsed.{control-pulsed, bus-pulsed, control-gated, bus-gated}
 use Rattle.counter_one.specs.declared.Counter.{Counter}
 use Rattle.counter_pulses.specs.Pulses.{pulses}
-use Rattle.counter_pulses.specs.Signals.{Signal, clk, gate, initial_count, after_signals, high_pulses, high_pulses_later, clks}
+use Rattle.counter_pulses.specs.Signals.{Signal, clk, gate, initial_count, after_signals, high_pulses, clks}
 
 -- ---- N is one more than a count down from it
 pub initial_down : (n : ℕ) → n < 65536 → initial_count n ≡ suc (down n)
@@ -35,11 +34,6 @@ pulses-after (suc p) k g = pulses-after p (pulsed k g) g
 pub all-high : (p : ℕ) → high_pulses true (clks p) ≡ p
 all-high zero = refl
 all-high (suc p) = ap suc (all-high p)
-
--- those after the first reach a count of 1 or more where all of them go beyond it
-pub beyond : (n p : ℕ) → 0 < n → nat_le n (high_pulses_later true (clks p)) ≡ nat_lt n p
-beyond n zero h = cc (lt-leb n 0 h, le-ltb n 0 (omega arith))
-beyond n (suc p) h = ap (leb n) (all-high p) ∙ sym (leb-suc-suc n p)
 
 -- ---- what signals leave of any counter
 pub control-after : (c : Counter) (g : Bool) (x : List Signal) → (after_signals c g x).control ≡ c.control

@@ -2,7 +2,7 @@
 use Rattle.std.specs.Prelude.{ℕ}
 use Rattle.base.specs.Flags.{on}
 use Rattle.requests.specs.Working as requests
-use Rattle.converter.specs.Working as converter
+use Rattle.converter.proofs.Working as converter
 use Rattle.converter.specs.Channels.{internal_trigger}
 use Rattle.timer.specs.Working.{WorkingTimer}
 use Rattle.timer.specs.Kept.{gates-works}

@@ -2,7 +2,7 @@
 use Rattle.std.specs.Prelude.{ℕ, ◌≤◌, refl, Bool, not, ◌&&◌}
 use Rattle.base.specs.Flags.{on, flag-le}
 use Rattle.requests.specs.Working as requests
-use Rattle.converter.specs.Working as converter
+use Rattle.converter.proofs.Working as converter
 use Rattle.converter.specs.Channels.{external_trigger}
 use Rattle.timer.specs.Kept.{clocked-works}
 use Rattle.timer.specs.declared.Select.TheVariants.{Counter0}

@@ -99,12 +99,3 @@ full_held samples = record { board = (full samples).board; samples = samples; ee
 
 pub fresh_holds : Holds fresh fresh_held
 fresh_holds = record { works = fresh-works; held = ap (λ (l : List ℕ). record { board = fresh.board; samples = l; eeprom = fresh.eeprom }) queue-clear }
-
-pub full-holds : (samples : List ℕ) → length samples ≡ 512 → Holds (full samples) (full_held samples)
-full-holds samples l =
-    record {
-      works = full-works samples l;
-      held =
-          ap (λ (q : List ℕ). record { board = (full samples).board; samples = q; eeprom = (full samples).eeprom })
-          (queue-layout full_fifo samples l (omega arith) (omega arith));
-    }

@@ -73,9 +73,7 @@ use Rattle.board_events.specs.declared.Event.TheVariants.{WriteByte, ReadByte, R
 use Rattle.board_events.specs.Answers.{value_read}
 use Rattle.bus.specs.Place.{place_of}
 use Rattle.board_step.specs.Acted.{word_read_answer}
-use Rattle.board_step.specs.Step.{refusal_of, step_of}
-use Rattle.board_step.specs.Passed.{all-passed}
-use Rattle.board_laws.specs.Answers.{value_brought, answer-value}
+use Rattle.board_laws.specs.Answers.{value_brought}
 use Rattle.numbers.specs.Typed.{Recorded, Sixteen}
 
 -- ---- a count that a read shows
@@ -171,7 +169,7 @@ high-below : (o : OldestSample) → Below o → high_byte_of o < 65536
 high-below NoneHeld h = omega arith
 high-below (Sample v) h = omega arith
 
-oldest-below : (f : Fifo) (m : List ℕ) → WorkingFifo f m → Sixteen m → Below (oldest_of (queue f m))
+pub oldest-below : (f : Fifo) (m : List ℕ) → WorkingFifo f m → Sixteen m → Below (oldest_of (queue f m))
 oldest-below f m w s = by (eqb f.held 0) refl
   where
     by : (t : Bool) → eqb f.held 0 ≡ t → Below (oldest_of (queue f m))
@@ -223,7 +221,7 @@ place-below b o CalBase15 r h = omega arith
 place-below b o Outside r h = omega arith
 
 -- ---- what an event brings
-brought-below : (b : Board) (m : List ℕ) (ev : Event) → Recorded b → Below (oldest_of (queue b.fifo m)) → value_brought b (queue b.fifo m) ev < 65536
+pub brought-below : (b : Board) (m : List ℕ) (ev : Event) → Recorded b → Below (oldest_of (queue b.fifo m)) → value_brought b (queue b.fifo m) ev < 65536
 unfolding value_brought
 brought-below b m (WriteByte n v) r h = omega arith
 brought-below b m (ReadByte n) r h = place-below b (oldest_of (queue b.fifo m)) (place_of b.registers.page n) r h
@@ -234,11 +232,3 @@ brought-below b m (LatchLevel level) r h = omega arith
 brought-below b m (PortPins q v) r h = omega arith
 brought-below b m Tick r h = omega arith
 brought-below b m TransferEnd r h = omega arith
-
--- the value in a step's answer is one of 16 bits
-pub value-below : (b : Board) (m e : List ℕ) (ev : Event) → Recorded b → Sixteen m → value_read (step_of b m e ev).answer < 65536
-value-below b m e ev r s = rw (answer-value b m e ev) (by (eqb (refusal_of b m e ev) 0) refl)
-  where
-    by : (t : Bool) → eqb (refusal_of b m e ev) 0 ≡ t → (if t then value_brought b (queue b.fifo m) ev else 0) < 65536
-    by true z = brought-below b m ev r (oldest-below b.fifo m (all-passed b m e ev (eqb-true _ _ z)).works.fifo s)
-    by false z = omega arith

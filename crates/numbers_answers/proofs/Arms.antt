@@ -6,7 +6,7 @@ use Rattle.board_events.specs.Answers.{refusal_number}
 use Rattle.board_events.specs.declared.Answer.{Answer}
 use Rattle.board_events.specs.declared.Answer.TheVariants.{Done, Byte, Word, Nothing, Refused}
 use Rattle.numbers_answers.specs.Packed.{answer_number, decoded}
-use Rattle.numbers_answers.specs.PackedLaws.{decoded-answer}
+use Rattle.numbers_answers.proofs.PackedLaws.{decoded-answer}
 
 -- n is the number, and is read as the answer
 abbrev Told : Answer → ℕ → Type 0

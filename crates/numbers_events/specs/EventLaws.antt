@@ -76,23 +76,3 @@ no_event n h =
 abbrev pub outside_refusal : Board → List ℕ → List ℕ → ℕ
 outside_refusal b memory eeprom =
     refusal (wrong_lengths memory eeprom refuses 2 ∷ not (is_working_board b memory) refuses 1 ∷ true refuses 3 ∷ [])
-
-module _ (b : Board) (m e : List ℕ) where
-  outside-refused : refusal_of b m e outside ≡ outside_refusal b m e
-  unfolding checks event_checks place_of read_checks register_at
-  outside-refused = refl
-
-  some_number : outside_refusal b m e ≡ 0 → ⊥
-  some_number = by (wrong_lengths m e) (is_working_board b m)
-    where
-      by : (lengths works : Bool) → refusal (lengths refuses 2 ∷ not works refuses 1 ∷ true refuses 3 ∷ []) ≡ 0 → ⊥
-      by true works h = omega (arith, h)
-      by false true h = omega (arith, h)
-      by false false h = omega (arith, h)
-
-  -- no event: refused by 2, 1 or 3, and the record and both memories stay
-  pub no_event_refused : (n : EventNumbers) → names_event n.kind ≡ false
-      → (step_of b m e (event_of n) ≡ refused_by b (outside_refusal b m e)) × (memory_after b m e (event_of n) ≡ m) × (eeprom_after b m e (event_of n) ≡ e)
-  no_event_refused n h =
-      let p = refused_unchanged b m e outside (λ z. some_number (sym outside-refused ∙ z)) in
-      rw (no_event n h) (p.0 ∙ ap (refused_by b) outside-refused, p.1, p.2)

@@ -3,7 +3,8 @@
 use Rattle.std.specs.Prelude.{◌≡◌, refl, Bool, true, false, List, [], ◌∷◌, ◌++◌, ℕ, ◌+◌, ◌^◌, ◌<◌, eqb, length, if◌then◌else◌}
 use Rattle.std.proofs.Common.{ap, sym, ◌∙◌, append_assoc, append-nil, mod-eq_of_lt, arith, eqb-true}
 use Rattle.session_commands.specs.Command.{command_of}
-use Rattle.session_commands.specs.Line.{read_line, taken-begun}
+use Rattle.session_commands.specs.Line.{taken-begun}
+use Rattle.session_commands.proofs.Line.{read_line}
 use Rattle.session_reading.specs.Reading.{taken, read_from}
 use Rattle.session_reading.proofs.Scanning.{read_more}
 use Rattle.session_commands.specs.Ends.{command_read, is_begun}

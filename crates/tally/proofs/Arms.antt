@@ -33,7 +33,8 @@ use Rattle.tally_counts.specs.declared.Tally.{Tally}
 use Rattle.tally.specs.Tally.{state_of, added, noted_ticks}
 use Rattle.tally.specs.Made.{begun_if, read_if, end_counts, taken}
 use Rattle.tally.specs.TickLaws.{one-begins}
-use Rattle.tally.specs.Ticks.{no_more, tick-counts, ticks_noted}
+use Rattle.tally.specs.Ticks.{no_more, tick-counts}
+use Rattle.tally.proofs.Ticks.{ticks_noted}
 use Rattle.board_events.specs.declared.Din.{Din}
 use Rattle.board_events.specs.declared.Event.{Event}
 use Rattle.board_events.specs.declared.Event.TheVariants.{WriteByte, ReadByte, ReadWord, ConversionEnd, DinPins, LatchLevel, PortPins, Tick, TransferEnd}

@@ -1,2 +1,5 @@
 pub mod Arms
 pub mod Halved
+pub mod Adding
+pub mod Runs
+pub mod Ticks

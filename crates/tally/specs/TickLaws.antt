@@ -6,7 +6,7 @@ use mathlib.Core.List.{[]}
 use Rattle.base.specs.Flags.{on}
 use Rattle.base.specs.Laws.{never}
 use Rattle.fifo.specs.declared.OldestSample.TheVariants.{NoneHeld}
-use Rattle.converter.specs.Begins.{trigger-runs}
+use Rattle.converter.proofs.Begins.{trigger-runs}
 use Rattle.converter.specs.Channels.{internal_trigger}
 use Rattle.machine_record.specs.declared.Clocks.{Clocks}
 use Rattle.machine_record.specs.declared.Board.{Board}

@@ -11,14 +11,14 @@ use Rattle.board_step.specs.Ticked.{ticked_board, tick-opens}
 use Rattle.board_step.specs.Ways.{Opened}
 use Rattle.board_advance.specs.Advance.{advanced_from, advanced_of}
 use Rattle.board_advance.specs.Advances.{tick-state, one-tick}
-use Rattle.board_advance.specs.Strided.{begins_in, begun_in}
+use Rattle.board_advance.specs.Strided.{begins_in}
+use Rattle.board_advance.proofs.Strided.{begun_in}
 use Rattle.board_advance.specs.declared.Advanced.{Advanced}
 use Rattle.board_laws.specs.Begins.{begins, ends, resets}
 use Rattle.tally_counts.specs.Counts.{no_counts, reads, loses, clears, counts_of, counts_at, together, counts_in}
 use Rattle.tally_counts.specs.declared.Tally.{Tally}
 use Rattle.tally.specs.Tally.{state_of, added, noted_ticks}
 use Rattle.tally.specs.Made.{begun_if}
-use Rattle.tally.specs.Adding.{noted-all}
 use Rattle.tally.specs.TickLaws.{tick-rose, tick-stays}
 use Rattle.board_events.specs.declared.Event.TheVariants.{Tick}
 
@@ -89,7 +89,3 @@ ticks_counted b m e n o =
     let c = counted-from m e n 0 b o in
     let d : (advanced_from n 0 b m e).progress.done ≡ c.k = omega (arith, c.done) in
     rw (o.long, o.working, d) (c.counts ∙ ap begun_if (begun_in b m e n o))
-
-pub ticks_noted : (t : Tally) (b : Board) (m e : List ℕ) (n : ℕ) → Opened b m e → added t (begun_if (begins_in b n)) ≡ noted_ticks t b m e n
-ticks_noted t b m e n o =
-    ap (added t) (sym (ticks_counted b m e n o)) ∙ sym (noted-all t (state_of b m e) (replicate (advanced_of b m e n).progress.done Tick))

@@ -1,5 +1,5 @@
 -- `counter_pulses::leap_counter` meets its contract: Parts has the counter after each way through the tests. Assumes nothing.
-use Rattle.std.proofs.Common.{arith, rules}
+use Rattle.std.proofs.Common.{arith}
 use Rattle.counter_pulses.proofs.Parts.{off-leaps, moves, keeps, lowers}
 use Rattle.counter_pulses.proofs.leap_counter.Goals as goal
 

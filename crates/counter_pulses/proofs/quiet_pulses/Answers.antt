@@ -1,6 +1,6 @@
 -- `counter_pulses::quiet_pulses` meets its contract: Parts has the pulses of each way through the tests. Assumes nothing.
 use Rattle.std.proofs.Common.{ap, not, eq-eqb, ne_eqb}
-use Rattle.std.proofs.Common.{◌≡◌, arith, rules}
+use Rattle.std.proofs.Common.{◌≡◌, arith}
 use Rattle.base.specs.Flags.{on}
 use Rattle.counter_element.specs.Element.{down}
 use Rattle.counter_pulses.proofs.Parts.{off-quiet, pending, idle, spares_terminal, spares-none, spares-rate, some_left}

@@ -5,7 +5,7 @@ use native.Mathlib.Omega.{arith}
 use borrow.Author.Tests.{ltb-false}
 use lib.ListN.{length-take}
 use Rattle.base.specs.Laws.{neither}
-use Rattle.samples.specs.Longest.{whole_part}
+use Rattle.samples.proofs.Longest.{whole_part}
 use Rattle.samples.proofs.whole_scans.Goals as goal
 
 pub overflow_sub-width : goal.overflow_sub-width

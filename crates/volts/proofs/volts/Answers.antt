@@ -11,7 +11,8 @@ use Rattle.volts.specs.declared.Voltage.TheVariants.{Volts}
 use Rattle.volts.specs.declared.Scale.TheVariants.{Bipolar, Unipolar}
 use Rattle.volts.specs.Table.{RangeRow, valid, invalid, absent, bipolar, unipolar, row_of}
 use Rattle.volts.specs.Volts.{scale_of, full_scale, input_voltage_at, AnswersVolts}
-use Rattle.volts.specs.Exact.{RowExact, row-exact, computed, bipolar_volts, unipolar_volts}
+use Rattle.volts.specs.Exact.{RowExact, computed}
+use Rattle.volts.proofs.Exact.{row-exact, bipolar_volts, unipolar_volts}
 use Rattle.volts.proofs.volts.Goals as goal
 
 by-bipolar : (r : RangeRow) (x : Float) (n : ℤ) → nat_abs n < 65536 → RowExact r → scale_of r ≡ Bipolar x

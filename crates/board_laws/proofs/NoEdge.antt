@@ -5,7 +5,7 @@ use Rattle.std.specs.Prelude.{ℕ, ◌≡◌, true}
 use Rattle.machine_reset.specs.Reset.{is_reset}
 use Rattle.board_step.specs.States.{State, Works, after_event}
 use Rattle.board_laws.specs.Edges.{NoEdge}
-use Rattle.board_laws.specs.EdgeLaws.{after_9, after_10, after-reset}
+use Rattle.board_laws.proofs.EdgeLaws.{after_9, after_10, after-reset}
 use Rattle.board_events.specs.declared.Event.TheVariants.{WriteByte}
 
 -- any working board, with memories of the right lengths, and any byte

@@ -1,0 +1,4 @@
+pub mod Counts
+pub mod History
+pub mod Numbers
+pub mod Table

@@ -1,0 +1,2 @@
+pub mod RunsLaws
+pub mod Table

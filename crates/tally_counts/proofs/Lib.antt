@@ -1,0 +1,4 @@
+pub mod OneEvent
+pub mod Shown
+pub mod Sums
+pub mod Went
