@@ -15,6 +15,7 @@ pub word_in_numbers : {o s : Outcome} {r : WordNumbered} {A B : Type 0} → r �
     → record { value : r ≡ word_numbered s; memory_after : A; eeprom_after : B }
 word_in_numbers k p = record { value = k ∙ ap word_numbered p.value; memory_after = p.memory_after; eeprom_after = p.eeprom_after }
 
-pub time_in_numbers : {o s : Advanced} {r : AdvancedNumbered} {A B : Type 0} → r ≡ advanced_numbered o → record { value : o ≡ s; memory_unchanged : A; eeprom_unchanged : B }
+pub time_in_numbers : {o s : Advanced} {r : AdvancedNumbered} {A B : Type 0} → r ≡ advanced_numbered o
+    → record { value : o ≡ s; memory_unchanged : A; eeprom_unchanged : B }
     → record { value : r ≡ advanced_numbered s; memory_unchanged : A; eeprom_unchanged : B }
 time_in_numbers k p = record { value = k ∙ ap advanced_numbered p.value; memory_unchanged = p.memory_unchanged; eeprom_unchanged = p.eeprom_unchanged }

@@ -22,5 +22,9 @@ returns-in-10 c = simp c.in-10.is
 pub returns-in_default : goal.returns-in_default
 unfolding spoiled_converter
 returns-in_default c =
-    simp
-    (ne_eqb _ _ c.in_default.in_default-own.rest.1, ne_eqb _ _ c.in_default.in_default-own.rest.0.1, ne_eqb _ _ c.in_default.in_default-own.rest.0.0.1, ne_eqb _ _ c.in_default.in_default-own.rest.0.0.0.1)
+    simp (
+      ne_eqb _ _ c.in_default.in_default-own.rest.1,
+      ne_eqb _ _ c.in_default.in_default-own.rest.0.1,
+      ne_eqb _ _ c.in_default.in_default-own.rest.0.0.1,
+      ne_eqb _ _ c.in_default.in_default-own.rest.0.0.0.1,
+    )

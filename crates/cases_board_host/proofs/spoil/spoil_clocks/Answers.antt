@@ -22,4 +22,5 @@ returns-in-13 c = simp (c.put_timer-l.ensures, c.spoil_timer-t.ensures, c.in-13.
 
 pub returns-in_default : goal.returns-in_default
 unfolding spoiled_clocks
-returns-in_default c = simp (c.put_timer-l.ensures, c.spoil_timer-t.ensures, ne_eqb _ _ c.in_default.in_default-own.rest.1, ne_eqb _ _ c.in_default.in_default-own.rest.0.1)
+returns-in_default c =
+    simp (c.put_timer-l.ensures, c.spoil_timer-t.ensures, ne_eqb _ _ c.in_default.in_default-own.rest.1, ne_eqb _ _ c.in_default.in_default-own.rest.0.1)
