@@ -58,9 +58,11 @@ module _ (M : Machine) (b : M.Board) (t : Settings) (f : FitSettings t) where
   -- the collector is fit, and its record holds the count while a start is under way
   abbrev Counted : Run → Type 0
   Counted r =
-      FitCollector (standing r).collector × (underway (phase_of (standing r).collector.phase) ≡ true → (standing r).collector.polls ≡ reads_since M (opening M b t f) r)
+      FitCollector (standing r).collector
+      × (underway (phase_of (standing r).collector.phase) ≡ true → (standing r).collector.polls ≡ reads_since M (opening M b t f) r)
 
-  turn-after : (r : Run) → Counted r → TurnCounts (standing r).collector (is_served M (standing r)) (reads_since M (opening M b t f) r) (turning M words (standing r))
+  turn-after : (r : Run) → Counted r
+      → TurnCounts (standing r).collector (is_served M (standing r)) (reads_since M (opening M b t f) r) (turning M words (standing r))
   turn-after r k = turn-counts M (standing r).collector k.0 (reads_since M (opening M b t f) r) k.1 (standing r).board (event_of (asks M words (standing r)))
 
   counted-after : (r : Run) → Counted r

@@ -1,14 +1,14 @@
 -- Theorems that rest on theorems of specs/Adding.antt, and promise as those do. What specs/Adding.antt says of itself:
 -- Counts that take more and stay at their largest: laws for the theorems over rows of events.
-use Rattle.std.specs.Prelude.{ℕ, ◌+◌, ◌-◌, ◌≤◌, ◌<◌, ◌≡◌, refl, Bool, true, false, List, [], ◌∷◌, ltb, if◌then◌else◌}
-use Rattle.std.proofs.Common.{sym, ◌∙◌, arith, ltb-true, ltb-false}
+use Rattle.std.specs.Prelude.{ℕ, ◌+◌, ◌≡◌, true, List, [], ◌∷◌}
+use Rattle.std.proofs.Common.{sym, ◌∙◌, arith}
 use Rattle.machine_record.specs.declared.Board.{Board}
 use Rattle.board_stores.specs.Stores.{wrong_lengths}
 use Rattle.board_refusal.specs.Refusals.{checks}
 use Rattle.board_step.specs.States.{State, after_event}
 use Rattle.tally_counts.specs.Counts.{no_counts, counts_at, together, counts_in}
 use Rattle.tally_counts.specs.declared.Tally.{Tally}
-use Rattle.tally.specs.Tally.{largest, plus_up_to, added, noted, noted_all}
+use Rattle.tally.specs.Tally.{plus_up_to, added, noted, noted_all}
 use Rattle.board_events.specs.declared.Event.{Event}
 use Rattle.tally.specs.Adding.{Plus, past, plus_ways, within}
 

@@ -7,11 +7,11 @@ use Rattle.board_step.specs.States.{State}
 use Rattle.board_laws.specs.Stretches.{after_events}
 use Rattle.tally_counts.specs.Counts.{no_counts, counts_in}
 use Rattle.tally_counts.proofs.Sums.{samples_accounted, conversions_accounted}
-use Rattle.tally_counts.specs.declared.Tally.{Tally}
 use Rattle.tally.specs.Tally.{largest, plus_up_to, noted_all, adds_up}
 use Rattle.tally.specs.Adding.{Plus, past, within, plus_ways}
 use Rattle.tally.proofs.Adding.{noted-all}
 use Rattle.board_events.specs.declared.Event.{Event}
+use Rattle.tally.specs.Runs.{Small}
 
 -- ---- a count at its largest stays, whatever is added: it does not wrap
 pub largest-stays : (more : ℕ) → plus_up_to largest more ≡ largest

@@ -1,27 +1,16 @@
 -- Theorems that rest on theorems of specs/Ticks.antt, and promise as those do. What specs/Ticks.antt says of itself:
 -- The ticks that are done of many count one conversion begun, where the board is converting after them and was not before, and nothing else: a call stops after
 -- the first tick that begins one.
-use Rattle.std.specs.Prelude.{ℕ, zero, suc, ◌+◌, ◌≡◌, refl, Bool, true, false, not, ◌&&◌, ◌||◌, List, replicate}
-use Rattle.std.proofs.Common.{sym, ap, subst, ◌∙◌, arith}
-use Rattle.base.specs.Flags.{on, flag}
-use Rattle.base.specs.Laws.{by-test, never}
+use Rattle.std.specs.Prelude.{ℕ, ◌≡◌, List, replicate}
+use Rattle.std.proofs.Common.{sym, ap, ◌∙◌}
 use Rattle.machine_record.specs.declared.Board.{Board}
-use Rattle.board_refusal.specs.Refusals.{event_checks, checks}
-use Rattle.board_step.specs.News.{rose, news, not_risen}
-use Rattle.board_step.specs.Ticked.{ticked_board, tick-opens}
 use Rattle.board_step.specs.Ways.{Opened}
-use Rattle.board_advance.specs.Advance.{advanced_from, advanced_of}
-use Rattle.board_advance.specs.Advances.{tick-state, one-tick}
+use Rattle.board_advance.specs.Advance.{advanced_of}
 use Rattle.board_advance.specs.Strided.{begins_in}
-use Rattle.board_advance.proofs.Strided.{begun_in}
-use Rattle.board_advance.specs.declared.Advanced.{Advanced}
-use Rattle.board_laws.specs.Begins.{begins, ends, resets}
-use Rattle.tally_counts.specs.Counts.{no_counts, reads, loses, clears, counts_of, counts_at, together, counts_in}
 use Rattle.tally_counts.specs.declared.Tally.{Tally}
 use Rattle.tally.specs.Tally.{state_of, added, noted_ticks}
 use Rattle.tally.specs.Made.{begun_if}
 use Rattle.tally.proofs.Adding.{noted-all}
-use Rattle.tally.specs.TickLaws.{tick-rose, tick-stays}
 use Rattle.board_events.specs.declared.Event.TheVariants.{Tick}
 use Rattle.tally.specs.Ticks.{ticks_counted}
 

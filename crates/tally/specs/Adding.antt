@@ -1,14 +1,7 @@
 -- Counts that take more and stay at their largest: laws for the theorems over rows of events.
-use Rattle.std.specs.Prelude.{ℕ, ◌+◌, ◌-◌, ◌≤◌, ◌<◌, ◌≡◌, refl, Bool, true, false, List, [], ◌∷◌, ltb, if◌then◌else◌}
-use Rattle.std.proofs.Common.{sym, ◌∙◌, arith, ltb-true, ltb-false}
-use Rattle.machine_record.specs.declared.Board.{Board}
-use Rattle.board_stores.specs.Stores.{wrong_lengths}
-use Rattle.board_refusal.specs.Refusals.{checks}
-use Rattle.board_step.specs.States.{State, after_event}
-use Rattle.tally_counts.specs.Counts.{no_counts, counts_at, together, counts_in}
-use Rattle.tally_counts.specs.declared.Tally.{Tally}
-use Rattle.tally.specs.Tally.{largest, plus_up_to, added, noted, noted_all}
-use Rattle.board_events.specs.declared.Event.{Event}
+use Rattle.std.specs.Prelude.{ℕ, ◌+◌, ◌-◌, ◌≤◌, ◌<◌, ◌≡◌, refl, Bool, true, false, ltb, if◌then◌else◌}
+use Rattle.std.proofs.Common.{ltb-true, ltb-false}
+use Rattle.tally.specs.Tally.{largest, plus_up_to}
 
 -- ---- one count: it goes past its largest, and is that, or it is the sum
 pub data Plus (count more : ℕ) (r : ℕ) : Type 0 where

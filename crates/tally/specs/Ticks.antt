@@ -17,7 +17,7 @@ use Rattle.board_advance.specs.declared.Advanced.{Advanced}
 use Rattle.board_laws.specs.Begins.{begins, ends, resets}
 use Rattle.tally_counts.specs.Counts.{no_counts, reads, loses, clears, counts_of, counts_at, together, counts_in}
 use Rattle.tally_counts.specs.declared.Tally.{Tally}
-use Rattle.tally.specs.Tally.{state_of, added, noted_ticks}
+use Rattle.tally.specs.Tally.{state_of}
 use Rattle.tally.specs.Made.{begun_if}
 use Rattle.tally.specs.TickLaws.{tick-rose, tick-stays}
 use Rattle.board_events.specs.declared.Event.TheVariants.{Tick}

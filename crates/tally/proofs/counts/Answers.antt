@@ -1,6 +1,5 @@
 -- `tally::counts` meets its contract, by a law for each way out. Assumes nothing. Written by tools/ways.py.
 use Rattle.std.proofs.Common.{ap, not}
-use borrow.Author.Rules.{rules}
 use mathlib.Core.Path.{◌∙◌}
 use Rattle.tally.proofs.Arms as arms
 use Rattle.board_step.specs.Ways as ways

@@ -1,5 +1,4 @@
 -- `tally::note` meets its contract. Assumes nothing.
-use borrow.Author.Rules.{rules}
 use Rattle.tally.proofs.note.Goals as goal
 
 pub returns : goal.returns

@@ -1,5 +1,4 @@
 -- `tally::of_working` meets its contract, by a law for each way out. Assumes nothing. Written by tools/ways.py.
-use borrow.Author.Rules.{rules}
 use mathlib.Core.Path.{◌∙◌}
 use Rattle.tally.proofs.Arms as arms
 use Rattle.tally.proofs.of_working.Goals as goal

@@ -1,5 +1,4 @@
 -- `tally::written` meets its contract, by a law for each way out. Assumes nothing. Written by tools/ways.py.
-use borrow.Author.Rules.{rules}
 use Rattle.tally.proofs.Arms as arms
 use Rattle.tally.proofs.written.Goals as goal
 

@@ -1,5 +1,4 @@
 -- `tally::begins::by_write` meets its contract. Assumes nothing.
-use borrow.Author.Rules.{rules}
 use Rattle.tally.proofs.begins.by_write.Goals as goal
 
 pub returns-in-Base0 : goal.returns-in-Base0
