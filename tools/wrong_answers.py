@@ -7,7 +7,6 @@ the edit changes. So where the prover refuses the witness by itself, it refuses 
 keeps of what the prover said no more than a line; this program has `rt check` say all of it.
 
     wrong_answers.py check           after `rt ci`: each wrong answer has a witness that was refused by itself, at a false fact (prover_log)
-    wrong_answers.py judged          the same by tools/refused.txt alone: an edit for which it says nothing is counted, and not tried
     wrong_answers.py try CRATE...    the same for these crates alone, each edit tried anew, over the libraries that stand in crates/*/out
     wrong_answers.py pack CRATE...   put wrong answers together in as few edits as have witnesses for all
     wrong_answers.py list            crate, edit, name and changed part of every wrong answer
@@ -62,23 +61,6 @@ def check(names, anew=False):
         sys.exit(1)
     wrongs = sum(len(read_edit(path)) for path in found)
     print(f'tools/wrong_answers.py: {wrongs} wrong answers, each refused by itself at a false fact; {tried} of the {len(found)} edits were tried now, what the others stand on is as {tried_edits.RECORD} has it')
-
-
-def judged(names):
-    record, bad, count, left = tried_edits.read(), [], 0, []
-    for name in names:
-        crate = Crate(name)
-        for path in edits(name):
-            if record.get(path, ('',))[0] == tried_edits.stands_on(crate, path):
-                bad += not_refused(crate, path, record[path][1])
-                count += len(read_edit(path))
-            else:
-                left.append(f'{name}/{label_of(path)}')
-    for line in bad:
-        print('tools/wrong_answers.py: not refused at a false fact:', line)
-    if bad:
-        sys.exit(1)
-    print(f'tools/wrong_answers.py: {count} wrong answers, each refused by itself at a false fact, as {tried_edits.RECORD} has it; {len(left)} edits are not judged yet by today\'s prover, one wrong answer at a time')
 
 
 def not_refused(crate, path, found):
@@ -178,8 +160,6 @@ if __name__ == '__main__':
     command, names = sys.argv[1:2], sys.argv[2:]
     if command == ['check'] and not names:
         check(listed_crates())
-    elif command == ['judged'] and not names:
-        judged(listed_crates())
     elif command == ['list'] and not names:
         listed()
     elif command == ['lacking'] and not names:
