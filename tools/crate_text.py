@@ -137,7 +137,9 @@ class Crate:
         """The parts of specs/ and shared proofs, the constants and the types that a text names."""
         aliases = self.aliases.get(file, ())
         here = words(text, {alias for _, alias in aliases})
-        here |= {w for given, alias in aliases if alias in here for w in words(given, {given.split('.')[0]})}
+        # A crate's name in a module's path is no part, also where a part has that name.
+        given_in = lambda given: re.sub(r'^Rattle\.\w+\.', '', given)
+        here |= {w for given, alias in aliases if alias in here for w in words(given_in(given), {given_in(given).split('.')[0]})}
         return set().union(*(self.by_word[w] for w in here if w in self.by_word))
 
     @functools.lru_cache(None)
