@@ -36,7 +36,7 @@ def functions_of(text):
                 functions[name][1].discard(goes)
                 functions[name][1].add((m[1], int(m[2] or "0", 16) + 4))
         elif m := re.match(r"\s+[0-9a-f]+:\t(.+)$", line):
-            said = re.sub(r"\s*#.*", "", m[1])
+            said = re.sub(r"\s+#\s.*", "", m[1])
             if DIVIDE.search(re.sub(r"<.*", "", said)):
                 functions[name][0].append(said)
             goes = bool(GOES.match(said + " ")) and (re.search(r"<(.+?)(?:\+0x[0-9a-f]+)?>$", said) or [said, said])[1]

@@ -1,10 +1,10 @@
 -- What condition 3 of acceptance speaks of does happen: a run of the product's own board and collector in which the limit is kept, samples are handed over
 -- one by one, the memory fills, its 512 samples come and then the gap, and the next run begins with the low channel.
-use Rattle.std.specs.Prelude.{ℕ, Bool, true, List, [], ◌∷◌, ◌≡◌, refl, pos, length}
+use Rattle.std.specs.Prelude.{ℕ, Bool, true, List, [], ◌∷◌, ◌≡◌, refl, Ok, Result, pos, length}
 use Rattle.std.proofs.Common.{ap, ◌∙◌}
+use Rattle.base.specs.declared.Refusal.{Refusal}
 use Rattle.collector_phases.specs.declared.Access.{Access}
 use Rattle.samples.specs.declared.Sample.{Sample}
-use Rattle.collector_records.specs.declared.Started.TheVariants.{Begun}
 use Rattle.collector_records.specs.Records.{start_of}
 use Rattle.board_step.specs.States.{Works}
 use Rattle.archive_turns.specs.Real.{real}
@@ -48,7 +48,7 @@ sample_on channel code = record { channel = channel; code = pos code }
 pub record Met : Type 0 where
   -- "Let the collector start on any working board": this one works, and the start is taken
   pub works : Works system.board
-  pub begun : start_of settings ≡ Begun system.collector
+  pub begun : start_of settings ≡ Ok system.collector
   -- "each sample handed over bears the channel selected when its conversion began .. each look that finds samples yields the oldest"
   pub one_by_one : (seen real words system singly).handed ≡ sample_on 3 600 ∷ sample_on 4 601 ∷ []
   -- the next access is a look, and the memory is full
@@ -67,7 +67,7 @@ pub record Met : Type 0 where
 abbrev at_singly : Watch → List Sample
 at_singly w = w.notes.handed
 
-abbrev at_filled : System holding → Access × ℕ
+abbrev at_filled : System holding → Result Access Refusal × ℕ
 at_filled x = (asks holding words x, length x.board.samples)
 
 abbrev EndSeen : Type 0
@@ -98,8 +98,8 @@ met =
       works = laws.works;
       begun = settings-taken;
       one_by_one = ap (λ (l : Log). l.handed) (log-watched singly) ∙ singly-is;
-      looks = ap (λ (x : System holding). asks holding words x) (laws.after-held filled) ∙ ap (λ (y : Access × ℕ). y.0) filled_is;
-      full = ap (λ (x : System holding). length x.board.samples) (laws.after-held filled) ∙ ap (λ (y : Access × ℕ). y.1) filled_is;
+      looks = ap (λ (x : System holding). asks holding words x) (laws.after-held filled) ∙ ap (λ (y : Result Access Refusal × ℕ). y.0) filled_is;
+      full = ap (λ (x : System holding). length x.board.samples) (laws.after-held filled) ∙ ap (λ (y : Result Access Refusal × ℕ). y.1) filled_is;
       all_come = ap (λ (l : Log). length l.handed) (log-watched drained_run) ∙ ap (λ (y : EndSeen). y.0) ended_is;
       one-gap = gaps-watched drained_run ∙ ap (λ (y : EndSeen). y.1) ended_is;
       limit_kept = ap (λ (l : Log). l.within) (log-watched drained_run) ∙ ap (λ (y : EndSeen). y.2) ended_is;

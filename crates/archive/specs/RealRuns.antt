@@ -1,9 +1,10 @@
 -- Runs on the board of `board::step` go by what it holds: they are those of a board that keeps its samples as a list. So they compute.
-use Rattle.std.specs.Prelude.{Bool, true, false, ◌&&◌, ◌≡◌, refl, ℕ, replicate, if◌then◌else◌}
+use Rattle.std.specs.Prelude.{Bool, true, false, ◌&&◌, ◌≡◌, refl, ℕ, replicate, Result, if◌then◌else◌}
 use mathlib.Core.List.{List, [], IsPrefix}
 use Rattle.std.proofs.Math.Option.{none}
 use Rattle.std.proofs.Math.Path.{ap}
 use Rattle.std.proofs.Common.{subst, ◌∙◌}
+use Rattle.base.specs.declared.Refusal.{Refusal}
 use Rattle.fifo.specs.Samples.{pushed}
 use Rattle.fifo.specs.Queue.{layout, empty_fifo, pushed_to, popped_from}
 use Rattle.fifo.specs.Queue.Laws.{queue-clear, clear-works}
@@ -95,11 +96,11 @@ unfolding log after access_of replied fit start_refusal phase_of held_answer hap
     gate_moved command setup_of next_channel flag_bits pushed pushed_to popped_from
 held_log H c r = log holding H (from holding (held_from c)) r
 
-unfoldable pub held_access : Host → Converter → Run → Access
+unfoldable pub held_access : Host → Converter → Run → Result Access Refusal
 unfolding held_log
 held_access H c r = asks holding H (after holding H (from holding (held_from c)) r)
 
-abbrev Goes : Access → Type 0
+abbrev Goes : Result Access Refusal → Type 0
 Goes x = Either (x ≡ look) (x ≡ word_read)
 
 module _ (H : Host) (c : Converter) (w : WorkingConverter c) (r : Run) where
@@ -128,5 +129,5 @@ module _ (H : Host) (c : Converter) (w : WorkingConverter c) (r : Run) where
   pub goes-on_held : Demand3 real H (from real (lent_with c)) → (held_log H c r).running ≡ true
       → Either (held_access H c r ≡ look) (held_access H c r ≡ word_read)
   goes-on_held f =
-      subst (λ (x : Access). (held_log H c r).running ≡ true → Goes x) access-held
+      subst (λ (x : Result Access Refusal). (held_log H c r).running ≡ true → Goes x) access-held
       (by-notes (λ (l : Log). l.running ≡ true → Goes (asks real H (after real H (from real (lent_with c)) r))) (f.goes_on r))

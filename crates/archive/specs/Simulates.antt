@@ -1,16 +1,15 @@
 -- One board shows what another does: where its steps, answers and views are those of the other, so are all its runs.
-use Rattle.std.specs.Prelude.{ℕ, Bool, List, ◌≡◌, ℤ}
+use Rattle.std.specs.Prelude.{ℕ, Bool, List, ◌≡◌, Result, Ok, Err, ℤ}
 use Rattle.std.proofs.Math.Option.{Option}
 use Rattle.std.proofs.Math.Path.{refl, ap}
 use Rattle.std.proofs.Common.{◌∙◌}
+use Rattle.base.specs.declared.Refusal.{Refusal}
 use Rattle.board_events.specs.declared.Answer.{Answer}
 use Rattle.board_events.specs.declared.Event.{Event}
 use Rattle.collector_phases.specs.declared.Access.{Access}
 use Rattle.collector_phases.specs.declared.Collector.{Collector}
 use Rattle.samples.specs.declared.Sample.{Sample}
 use Rattle.collector.specs.Handed.{samples_of, gap_marked}
-use Rattle.archive_turns.specs.declared.Asked.{Asked}
-use Rattle.archive_turns.specs.declared.Asked.TheVariants.{Made, NotMade}
 use Rattle.collector_answers.specs.declared.BusAnswer.{BusAnswer}
 use Rattle.archive_turns.specs.Machine.{View, Machine, Host}
 use Rattle.archive_turns.specs.Turn.{event_of, Turning, brought_by, taken_by, turn_by}
@@ -28,7 +27,7 @@ pub record Simulates (M N : Machine) (Working : M.Board → Type 0) (f : M.Board
   pub ends : (b : M.Board) (ev : Event) → Working b → M.ends b ev ≡ N.ends (f b) ev
 
 -- notes of equal things are equal
-turn-notes : (x : Access) {a a' : BusAnswer} {b b' : Bool} {s s' : ℕ} {o o' : List Sample} {g g' : Bool} (l : Log)
+turn-notes : (x : Result Access Refusal) {a a' : BusAnswer} {b b' : Bool} {s s' : ℕ} {o o' : List Sample} {g g' : Bool} (l : Log)
     → a ≡ a' → b ≡ b' → s ≡ s' → o ≡ o' → g ≡ g' → note_turn x a b s o g l ≡ note_turn x a' b' s' o' g' l
 turn-notes x l p q r t u = rw (p, q, r, t, u)
 
@@ -44,15 +43,15 @@ module _ (M N : Machine) (Working : M.Board → Type 0) (f : M.Board → N.Board
   abbrev mapped_turn : Turning M.Board → Turning N.Board
   mapped_turn t = record { collector = t.collector; board = f t.board; polls = t.polls; handed = t.handed }
 
-  turned : (q : Asked) (c : Collector) (b : M.Board) → Working b → mapped_turn (turn_by M H q c b) ≡ turn_by N H q c (f b)
-  turned (Made ev) c b w =
+  turned : (q : Result Event Refusal) (c : Collector) (b : M.Board) → Working b → mapped_turn (turn_by M H q c b) ≡ turn_by N H q c (f b)
+  turned (Ok ev) c b w =
       ap (λ (y : N.Board). taken_by (H.reply c (brought_by (M.answered b ev))) y) (sim.steps b ev w)
       ∙ ap (λ (a : Answer). taken_by (H.reply c (brought_by a)) (N.stepped (f b) ev)) (sim.answers b ev w)
-  turned (NotMade n) c b w = refl
+  turned (Err e) c b w = refl
 
-  turn-works : (q : Asked) (c : Collector) (b : M.Board) → Working b → Working (turn_by M H q c b).board
-  turn-works (Made ev) c b w = sim.works b ev w
-  turn-works (NotMade n) c b w = w
+  turn-works : (q : Result Event Refusal) (c : Collector) (b : M.Board) → Working b → Working (turn_by M H q c b).board
+  turn-works (Ok ev) c b w = sim.works b ev w
+  turn-works (Err e) c b w = w
 
   -- ---- a happening
   next-works : (x : System M) (e : Happening) → Working x.board → Working (next M H x e).board
@@ -66,20 +65,20 @@ module _ (M N : Machine) (Working : M.Board → Type 0) (f : M.Board → N.Board
   next-same x (world v) w =
       ap (λ (y : N.Board). record { board = y; collector = x.collector }) (sim.steps x.board (event_in v) w)
 
-  brings-same : (q : Asked) (b : M.Board) → Working b → brings_by M b q ≡ brings_by N (f b) q
-  brings-same (Made ev) b w = ap brought_by (sim.answers b ev w)
-  brings-same (NotMade n) b w = refl
+  brings-same : (q : Result Event Refusal) (b : M.Board) → Working b → brings_by M b q ≡ brings_by N (f b) q
+  brings-same (Ok ev) b w = ap brought_by (sim.answers b ev w)
+  brings-same (Err e) b w = refl
 
-  begins-same : (q : Asked) (b : M.Board) → Working b → begins_by M b q ≡ begins_by N (f b) q
-  begins-same (Made ev) b w = sim.begins b ev w
-  begins-same (NotMade n) b w = refl
+  begins-same : (q : Result Event Refusal) (b : M.Board) → Working b → begins_by M b q ≡ begins_by N (f b) q
+  begins-same (Ok ev) b w = sim.begins b ev w
+  begins-same (Err e) b w = refl
 
   selected-same : (b : M.Board) → selected M b ≡ selected N (f b)
   selected-same b = ap (λ (v : View). v.converter.selected) (sim.views b)
 
   note-same : (x : System M) (e : Happening) (l : Log) → Working x.board → note M H x e l ≡ note N H (mapped x) e l
   note-same x turn l w =
-      let q : Asked = event_of (H.access x.collector) in
+      let q : Result Event Refusal = event_of (H.access x.collector) in
       let t = turned q x.collector x.board w in
       turn-notes (H.access x.collector) l (brings-same q x.board w) (begins-same q x.board w) (selected-same x.board)
       (ap (λ (t : Turning N.Board). samples_of t.handed) t)

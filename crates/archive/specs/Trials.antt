@@ -1,8 +1,7 @@
 -- A start and runs to try demand 3 on: channels 3 to 5 by the external clock, DIN3.
-use Rattle.std.specs.Prelude.{ℕ, zero, suc, ◌%◌, ◌≡◌, refl, pos}
+use Rattle.std.specs.Prelude.{ℕ, zero, suc, ◌%◌, ◌≡◌, refl, Ok, pos}
 use Rattle.std.proofs.Common.{arith}
 use Rattle.collector_settings.specs.declared.Settings.{Settings}
-use Rattle.collector_records.specs.declared.Started.TheVariants.{Begun}
 use Rattle.collector_settings.specs.Settings.{start_refusal}
 use Rattle.collector_records.specs.Records.{first_record, start_of}
 use Rattle.archive_turns.specs.Machine.{Machine}
@@ -13,7 +12,7 @@ use Rattle.archive_demand.specs.Run.{turn, world, Run, begin, ◌▸◌, System}
 abbrev pub settings : Settings
 settings = record { low = 3; high = 5; jumpers = 0; range = 0; clock = 0; limit = 10 }
 
-pub settings-taken : start_of settings ≡ Begun (first_record settings)
+pub settings-taken : start_of settings ≡ Ok (first_record settings)
 unfolding start_of start_refusal
 settings-taken = refl
 

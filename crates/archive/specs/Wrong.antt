@@ -1,9 +1,10 @@
 -- Wrong collectors on the product's own board, and wrong boards, each of which demand 3 rules out by a run.
-use Rattle.std.specs.Prelude.{ℕ, suc, ◌%◌, ◌≡◌, refl, ℤ, pos, eqb, ltb, length, drop, if◌then◌else◌}
+use Rattle.std.specs.Prelude.{ℕ, suc, ◌%◌, ◌≡◌, refl, Ok, Err, ℤ, pos, eqb, ltb, length, drop, if◌then◌else◌}
 use mathlib.Core.List.{List, [], ◌∷◌, ◌++◌, IsPrefix}
 use Rattle.std.proofs.Math.Option.{Option, none, some}
 use Rattle.std.proofs.Common.{sym, ap, arith}
 use Rattle.base.specs.Laws.{never}
+use Rattle.base.specs.Checks.{refused_by}
 use Rattle.converter.specs.Codes.{sample_of}
 use Rattle.converter.specs.Registers.{fresh_converter}
 use Rattle.converter.specs.Working.{WorkingConverter, fresh-works}
@@ -11,7 +12,7 @@ use Rattle.converter.specs.declared.channels.Converter.{Converter}
 use Rattle.board_laws.specs.Held.{Held, held_answer, happened}
 use Rattle.board_events.specs.declared.Answer.{Answer}
 use Rattle.board_events.specs.declared.Answer.TheVariants.{Done, Byte, Word, Nothing, Refused}
-use Rattle.collector_phases.specs.declared.Access.TheVariants.{WriteByte, NoAccess}
+use Rattle.collector_phases.specs.declared.Access.TheVariants.{WriteByte}
 use Rattle.collector_phases.specs.declared.Collector.{Collector}
 use Rattle.collector_phases.specs.declared.Phase.TheVariants.{Poll, Take}
 use Rattle.samples.specs.declared.Sample.{Sample}
@@ -60,17 +61,17 @@ hasty_refuted f = none-begun (record { channel = 3; code = pos 77 }) (in_order-h
 
 -- ---- a collector that makes no access at all
 abbrev pub mute : Host
-mute = record { access = λ c. NoAccess 15; reply = replied }
+mute = record { access = λ c. Err (refused_by 15); reply = replied }
 
 pub mute_refuted : Demand3 real mute (from real (lent_with fresh_converter)) → ⊥
 mute_refuted f = nothing f.begins
   where
-    nothing : NoAccess 15 ≡ WriteByte 9 0 → ⊥
+    nothing : Err (refused_by 15) ≡ Ok (WriteByte 9 0) → ⊥
     nothing e = let z : ◌≡◌ {A = ℕ} 0 1 = cc in omega arith
 
 -- ---- a collector that falls silent with its first sample
 abbrev pub silent : Host
-silent = record { access = λ c. if eqb c.next c.settings.low then access_of c else NoAccess 15; reply = replied }
+silent = record { access = λ c. if eqb c.next c.settings.low then access_of c else Err (refused_by 15); reply = replied }
 
 -- ---- a collector that starts anew after a single take
 abbrev renewed : Collector → Taken → Taken
@@ -84,7 +85,7 @@ restarting = record { access = access_of; reply = λ c a. renewed c (replied c a
 abbrev one : Run
 one = sampled 77 start ▸ turn ▸ turn
 
-silence : Either (NoAccess 15 ≡ look) (NoAccess 15 ≡ word_read) → ⊥
+silence : Either (Err (refused_by 15) ≡ look) (Err (refused_by 15) ≡ word_read) → ⊥
 silence (first e) = let z : ◌≡◌ {A = ℕ} 0 1 = cc in omega arith
 silence (second e) = let z : ◌≡◌ {A = ℕ} 0 1 = cc in omega arith
 
@@ -92,7 +93,7 @@ pub silent_refuted : Demand3 real silent (from real (lent_with fresh_converter))
 unfolding held_access
 silent_refuted f = silence (goes-on_held silent fresh_converter fresh-works one f refl)
 
-new_start : Either (WriteByte 9 0 ≡ look) (WriteByte 9 0 ≡ word_read) → ⊥
+new_start : Either (Ok (WriteByte 9 0) ≡ look) (Ok (WriteByte 9 0) ≡ word_read) → ⊥
 new_start (first e) = let z : ◌≡◌ {A = ℕ} 0 1 = cc in omega arith
 new_start (second e) = let z : ◌≡◌ {A = ℕ} 0 1 = cc in omega arith
 

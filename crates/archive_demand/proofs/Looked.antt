@@ -1,5 +1,5 @@
 -- A look, and all that it owes: the parts `yields`, `marks` and `again` of demand 3. Assumes nothing.
-use Rattle.std.specs.Prelude.{ℕ, suc, ◌+◌, ◌≤◌, ◌<◌, Bool, true, false, ◌≡◌, refl, leb, take, if◌then◌else◌}
+use Rattle.std.specs.Prelude.{ℕ, suc, ◌+◌, ◌≤◌, ◌<◌, Bool, true, false, ◌≡◌, refl, Ok, leb, take, if◌then◌else◌}
 use mathlib.Core.List.{List, [], ◌∷◌, ◌++◌, append-nil}
 use Rattle.std.proofs.Math.Path.{sym, ap}
 use Rattle.std.proofs.Common.{◌∙◌, arith, le-leb, length-append, take_at}
@@ -199,7 +199,7 @@ module _ (M : Machine) (Working : M.Board → Type 0) (laws : Laws M Working) wh
         by false e (n ∷ r) f = rw (lt-leb 512 (turns q) (omega (arith, sizes, at_most_one_lem e)))
 
     pub again-at : turns q ≡ owed held
-        → access_of (after M words (next M words x turn) q).collector ≡ (if leb 512 (turns q) then WriteByte 9 0 else look)
+        → access_of (after M words (next M words x turn) q).collector ≡ (if leb 512 (turns q) then Ok (WriteByte 9 0) else look)
     again-at e =
         access-fit _ (sound M Working laws t (next M words x turn) q s₁).fit ∙ by (leb 512 (length held)) refl o.rest refl o.stage
       where
@@ -209,7 +209,7 @@ module _ (M : Machine) (Working : M.Board → Type 0) (laws : Laws M Working) wh
         by : (z : Bool) → leb 512 (length held) ≡ z → (r : List ℕ) → o.rest ≡ r
             → Stage z r (after M words (next M words x turn) q).collector
             → access_in (phase_of (after M words (next M words x turn) q).collector.phase) (after M words (next M words x turn) q).collector.settings
-            ≡ (if leb 512 (turns q) then WriteByte 9 0 else look)
+            ≡ (if leb 512 (turns q) then Ok (WriteByte 9 0) else look)
         by true w [] f g = rw (g, le-leb 512 (turns q) (omega (arith, e, all_of_them w)))
         by false w [] f g = rw (g, lt-leb 512 (turns q) (omega (arith, e, at_most_one_lem w)))
         by z w (n ∷ r) f g = absurd (let y : length o.rest ≡ suc (length r) = ap length f in omega (arith, sizes, e))

@@ -1,10 +1,9 @@
 -- The polls that a turn reports, on any board: whatever the board does, answers and refuses, and whatever events fall between the turns. (The specification,
 -- "The collector"; "How firm the contracts are": "It shuts out an invented poll count, since that equals reads in the history".)
-use Rattle.std.specs.Prelude.{◌≡◌}
+use Rattle.std.specs.Prelude.{◌≡◌, Ok}
 use Rattle.std.proofs.Common.{sym, subst}
 use Rattle.collector_settings.specs.declared.Settings.{Settings}
 use Rattle.collector_phases.specs.declared.Collector.{Collector}
-use Rattle.collector_records.specs.declared.Started.TheVariants.{Begun}
 use Rattle.collector_records.specs.Records.{start_of}
 use Rattle.collector.specs.Kept.{started-begun}
 use Rattle.archive_turns.specs.Machine.{Machine}
@@ -14,7 +13,7 @@ use Rattle.archive_demand.specs.Reads.{reads_since}
 use Rattle.archive_demand.proofs.ReadsLaws.{reported-after}
 
 -- A collector that a start gave, on any board, after any run
-module _ (M : Machine) (b : M.Board) (settings : Settings) (c : Collector) (h : start_of settings ≡ Begun c) where
+module _ (M : Machine) (b : M.Board) (settings : Settings) (c : Collector) (h : start_of settings ≡ Ok c) where
   abbrev together : System M
   together = record { board = b; collector = c }
 

@@ -1,7 +1,9 @@
 -- Theorems that rest on theorems of specs/ReadsLaws.antt, and promise as those do. What specs/ReadsLaws.antt says of itself:
 -- How a turn counts polls: what the theorem of Polls.antt is made of.
-use Rattle.std.specs.Prelude.{ℕ, ◌≡◌, refl, true, false}
+use Rattle.std.specs.Prelude.{ℕ, ◌≡◌, refl, true, false, Result, Ok, Err}
 use Rattle.std.proofs.Common.{◌∙◌}
+use Rattle.base.specs.declared.Refusal.{Refusal}
+use Rattle.board_events.specs.declared.Event.{Event}
 use Rattle.collector_settings.specs.declared.Settings.{Settings}
 use Rattle.collector_phases.specs.declared.Collector.{Collector}
 use Rattle.collector_phases.specs.Phases.{phase_of}
@@ -16,8 +18,6 @@ use Rattle.collector.specs.Steps.{stays, reply, access-fit}
 use Rattle.collector.specs.Kept.{begun-fit, replied-fit}
 use Rattle.collector.specs.Counts.{underway, reply-holds}
 use Rattle.collector.proofs.Counts.{reply-counts}
-use Rattle.archive_turns.specs.declared.Asked.{Asked}
-use Rattle.archive_turns.specs.declared.Asked.TheVariants.{Made, NotMade}
 use Rattle.archive_turns.specs.Machine.{Machine}
 use Rattle.archive_turns.specs.Hosts.{words}
 use Rattle.archive_turns.specs.Turn.{event_of, brought_by, taken_by, unturned, turn_by}
@@ -46,9 +46,9 @@ module _ {B : Type 0} (c : Collector) (w : FitCollector c) (n : ℕ) (k : underw
       }
 
 module _ (M : Machine) (c : Collector) (w : FitCollector c) (n : ℕ) (k : underway (phase_of c.phase) ≡ true → c.polls ≡ n) (b : M.Board) where
-  turn-counts : (q : Asked) → TurnCounts c (served (brings_by M b q)) n (turn_by M words q c b)
-  turn-counts (Made ev) = brought-counts c w n k (M.stepped b ev) (brought_by (M.answered b ev))
-  turn-counts (NotMade m) = unturned-counts c w n k b m
+  turn-counts : (q : Result Event Refusal) → TurnCounts c (served (brings_by M b q)) n (turn_by M words q c b)
+  turn-counts (Ok ev) = brought-counts c w n k (M.stepped b ev) (brought_by (M.answered b ev))
+  turn-counts (Err e) = unturned-counts c w n k b e.number
 
 -- ---- a run
 module _ (M : Machine) (b : M.Board) (t : Settings) (f : FitSettings t) where

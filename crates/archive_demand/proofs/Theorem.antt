@@ -1,11 +1,12 @@
 -- Theorems that rest on theorems of specs/Theorem.antt, and promise as those do. What specs/Theorem.antt says of itself:
 -- Demand 3 holds of the collector on any board that obeys the laws. Assumes nothing.
-use Rattle.std.specs.Prelude.{ℕ, suc, ◌≤◌, true, false, ◌≡◌, refl, length}
+use Rattle.std.specs.Prelude.{ℕ, suc, ◌≤◌, true, false, ◌≡◌, refl, Result, Ok, length}
 use Rattle.std.proofs.Common.{true≢false, sym, ◌∙◌, ap, subst, arith}
 use mathlib.Core.List.{List, [], ◌∷◌, ◌++◌, IsPrefix}
 use Rattle.collector_phases.specs.declared.Access.{Access}
 use Rattle.collector_phases.specs.declared.Access.TheVariants.{WriteByte, ReadByte, ReadWord}
 use Rattle.base.specs.Laws.{never}
+use Rattle.base.specs.declared.Refusal.{Refusal}
 use Rattle.collector_settings.specs.declared.Settings.{Settings}
 use Rattle.collector_phases.specs.declared.Collector.{Collector}
 use Rattle.collector_answers.specs.declared.BusAnswer.TheVariants as bus
@@ -109,7 +110,7 @@ module _ (M : Machine) (Working : M.Board → Type 0) (laws : Laws M Working) (b
   in_run : (r : Run) → (log M words s r).running ≡ true → Either (access_of (at r).collector ≡ look) (access_of (at r).collector ≡ word_read)
   in_run r h = by (state r)
     where
-      which : Either (phase_of (at r).collector.phase ≡ Look) (access_in (phase_of (at r).collector.phase) (at r).collector.settings ≡ ReadWord 0)
+      which : Either (phase_of (at r).collector.phase ≡ Look) (access_in (phase_of (at r).collector.phase) (at r).collector.settings ≡ Ok (ReadWord 0))
           → Either (access_of (at r).collector ≡ look) (access_of (at r).collector ≡ word_read)
       which (first p) = first (access-fit (at r).collector (ok r).fit ∙ ap (λ (q : Phase). access_in q (at r).collector.settings) p)
       which (second a) = second (access-fit (at r).collector (ok r).fit ∙ a)
@@ -122,8 +123,8 @@ module _ (M : Machine) (Working : M.Board → Type 0) (laws : Laws M Working) (b
   at-look : (r : Run) → access_of (at r).collector ≡ look → phase_of (at r).collector.phase ≡ Look
   at-look r e = phase-told (at r).collector look (ok r).fit e
 
-  at-poll : (r : Run) → access_of (at r).collector ≡ ReadByte 8 → phase_of (at r).collector.phase ≡ Poll
-  at-poll r e = phase-told (at r).collector (ReadByte 8) (ok r).fit e
+  at-poll : (r : Run) → access_of (at r).collector ≡ Ok (ReadByte 8) → phase_of (at r).collector.phase ≡ Poll
+  at-poll r e = phase-told (at r).collector (Ok (ReadByte 8)) (ok r).fit e
 
   -- a word read finds a sample: in a take one is held, in a drain as many as are left
   some-held : (p : Phase) (c : Collector) (v : View) (l : Log) → FitIn p c → Fact p c.settings c.next c.left v l → access_in p c.settings ≡ word_read
@@ -148,7 +149,7 @@ module _ (M : Machine) (Working : M.Board → Type 0) (laws : Laws M Working) (b
       let h = first_of (M.view (at r).board).held
       (some-held (phase_of c.phase) c (M.view (at r).board) (log M words s r) (ok r).fit.phase (fact r) (sym (access-fit c (ok r).fit) ∙ e)) in (
         h.0,
-        ap (λ (x : Access). brings_by M (at r).board (event_of x)) e
+        ap (λ (x : Result Access Refusal). brings_by M (at r).board (event_of x)) e
             ∙ ap brought_by ((laws.words (at r).board (ok r).works).oldest h.0 h.1 h.2),
       )
 
@@ -165,7 +166,7 @@ module _ (M : Machine) (Working : M.Board → Type 0) (laws : Laws M Working) (b
         goes_on = in_run;
         finds = sample-there;
         begins = access-fit (first_record t) (sound₀ M Working laws b wk t f).fit;
-        polls = λ r e. polls-at M Working laws t (at r) (ok r) (phase-told (at r).collector (WriteByte 9 0) (ok r).fit e);
+        polls = λ r e. polls-at M Working laws t (at r) (ok r) (phase-told (at r).collector (Ok (WriteByte 9 0)) (ok r).fit e);
         waits = λ r e k. waits-at M Working laws t (at r) (ok r) (at-poll r e) k;
         ready = λ r q e n k. ready_at M Working laws t (at r) (ok r) (at-poll r e) n q k;
       }

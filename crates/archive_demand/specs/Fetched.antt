@@ -1,12 +1,13 @@
 -- What the phases say goes on to hold after a word read of the collector. Assumes nothing.
 use Prim.Native.Nat.{ℕ, suc, ◌<◌}
-use Rattle.std.specs.Prelude.{false, ◌≡◌}
+use Rattle.std.specs.Prelude.{false, ◌≡◌, Result, Ok}
 use mathlib.Core.List.{List, [], ◌∷◌, ◌++◌, append-nil}
 use Rattle.std.proofs.Math.Path.{refl, sym, ap}
 use Rattle.std.proofs.Common.{◌∙◌, arith}
 use borrow.Author.Tests.{leb-false}
 use Rattle.std.proofs.Math.ListN.{length}
 use Rattle.base.specs.Laws.{never}
+use Rattle.base.specs.declared.Refusal.{Refusal}
 use Rattle.board_events.specs.declared.Event.TheVariants as event
 use Rattle.converter.specs.Codes.{sample_of}
 use Rattle.collector_phases.specs.declared.Access.{Access}
@@ -37,7 +38,7 @@ module _ (M : Machine) (b : M.Board) (c : Collector) (l : Log) where
   abbrev pub Now : Phase → Type 0
   Now p = Fact p c.settings c.next c.left (M.view b) l
 
-  abbrev pub After : Access → BusAnswer → Taken → View → Type 0
+  abbrev pub After : Result Access Refusal → BusAnswer → Taken → View → Type 0
   After x a r v' =
       FactOf r.collector v' (note_turn x a false (selected M b) (samples_of r.handed) (gap_marked r.handed) l)
 
@@ -94,7 +95,7 @@ module _ (M : Machine) (Working : M.Board → Type 0) (laws : Laws M Working) wh
           queue_hand t c.next v l l' o.y o.rest L (words_of o.rest ++ X) d e
           (f ∙ ap (λ (y : Sample). l.handed ++ (y ∷ [])) is-oldest) (rw o.cut at q)
 
-    pub take_after : (r : Taken) → Step c (bus.Number d) Take r → Now M b c l Take → After M b c l (ReadWord 0) (bus.Number d) r v₁
+    pub take_after : (r : Taken) → Step c (bus.Number d) Take r → Now M b c l Take → After M b c l (Ok (ReadWord 0)) (bus.Number d) r v₁
     unfolding phase_of
     take_after r (take_nothing i) k = never (ap is_nothing i)
     take_after r (taken word i) k = rw (sym (same_word d word i)) (
@@ -112,7 +113,7 @@ module _ (M : Machine) (Working : M.Board → Type 0) (laws : Laws M Working) wh
           }),
     )
 
-    pub drain_after : (r : Taken) → Step c (bus.Number d) Drain r → Now M b c l Drain → After M b c l (ReadWord 0) (bus.Number d) r v₁
+    pub drain_after : (r : Taken) → Step c (bus.Number d) Drain r → Now M b c l Drain → After M b c l (Ok (ReadWord 0)) (bus.Number d) r v₁
     unfolding phase_of
     drain_after r (drain_nothing i) k = never (ap is_nothing i)
     drain_after r (drained word i e) k = rw (sym (same_word d word i)) (

@@ -1,7 +1,9 @@
 -- What holds in each phase holds after every run. Assumes nothing.
-use Rattle.std.specs.Prelude.{[], ◌≡◌}
+use Rattle.std.specs.Prelude.{[], ◌≡◌, Result, Ok, Err}
 use Rattle.std.proofs.Math.Path.{refl}
 use Rattle.std.proofs.Common.{◌∙◌}
+use Rattle.base.specs.declared.Refusal.{Refusal}
+use Rattle.board_events.specs.declared.Event.{Event}
 use Rattle.collector_phases.specs.declared.Collector.{Collector}
 use Rattle.collector_settings.specs.declared.Settings.{Settings}
 use Rattle.collector_phases.specs.Phases.{phase_of}
@@ -13,8 +15,6 @@ use Rattle.collector.specs.Counts.{reply-holds}
 use Rattle.collector.specs.Steps.{reply}
 use Rattle.collector.specs.Kept.{begun-fit, replied-fit}
 use Rattle.archive_turns.specs.Machine.{Machine}
-use Rattle.archive_turns.specs.declared.Asked.{Asked}
-use Rattle.archive_turns.specs.declared.Asked.TheVariants.{Made, NotMade}
 use Rattle.collector_answers.specs.declared.BusAnswer.{BusAnswer}
 use Rattle.archive_turns.specs.Turn.{event_of, brought_by, turn_by}
 use Rattle.archive_turns.specs.Hosts.{words}
@@ -32,11 +32,11 @@ module _ (M : Machine) (Working : M.Board → Type 0) (laws : Laws M Working) wh
     pub same : x.collector.settings ≡ t
 
   module _ (c : Collector) (fc : FitCollector c) (b : M.Board) (wk : Working b) where
-    turn-sound : (x : Asked) → Sound c.settings (record { board = (turn_by M words x c b).board; collector = (turn_by M words x c b).collector })
-    turn-sound (Made ev) =
+    turn-sound : (x : Result Event Refusal) → Sound c.settings (record { board = (turn_by M words x c b).board; collector = (turn_by M words x c b).collector })
+    turn-sound (Ok ev) =
         let y : BusAnswer = brought_by (M.answered b ev) in
         record { works = laws.works b ev wk; fit = replied-fit c fc y; same = (reply-holds c fc.phase y (replied c y) (reply c y fc)).0 }
-    turn-sound (NotMade n) = record { works = wk; fit = fc; same = refl }
+    turn-sound (Err e) = record { works = wk; fit = fc; same = refl }
 
   sound-next : (t : Settings) (x : System M) (e : Happening) → Sound t x → Sound t (next M words x e)
   sound-next t x turn s =

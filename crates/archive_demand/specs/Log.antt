@@ -1,17 +1,17 @@
 -- What an onlooker writes down, going through a run happening by happening: the conversions begun since the end of the last start, what was
 -- handed over, and how far the limit was kept (condition 3 of acceptance; the specification, "The collector": "For demand 3 a start ends with
 -- its last write, 9←02 or 03").
-use Rattle.std.specs.Prelude.{ℕ, ◌+◌, Bool, true, false, ◌&&◌, ◌||◌, List, [], ◌∷◌, ◌++◌, ℤ, eqb, leb, if◌then◌else◌}
+use Rattle.std.specs.Prelude.{ℕ, ◌+◌, Bool, true, false, ◌&&◌, ◌||◌, List, [], ◌∷◌, ◌++◌, Result, Ok, Err, ℤ, eqb, leb, if◌then◌else◌}
 use Rattle.std.proofs.Math.Option.{Option, none, some}
+use Rattle.base.specs.declared.Refusal.{Refusal}
+use Rattle.board_events.specs.declared.Event.{Event}
 use Rattle.collector_answers.specs.declared.BusAnswer.{BusAnswer}
 use Rattle.collector_answers.specs.declared.BusAnswer.TheVariants as bus
 use Rattle.collector_phases.specs.declared.Access.{Access}
-use Rattle.collector_phases.specs.declared.Access.TheVariants.{WriteByte, ReadByte, ReadWord, NoAccess}
+use Rattle.collector_phases.specs.declared.Access.TheVariants.{WriteByte, ReadByte, ReadWord}
 use Rattle.samples.specs.declared.Sample.{Sample}
 use Rattle.collector_answers.specs.Answers.{EF, FF}
 use Rattle.collector.specs.Handed.{is_go}
-use Rattle.archive_turns.specs.declared.Asked.{Asked}
-use Rattle.archive_turns.specs.declared.Asked.TheVariants.{Made, NotMade}
 use Rattle.archive_turns.specs.Machine.{Machine, Host}
 use Rattle.archive_turns.specs.Turn.{event_of, brought_by}
 use Rattle.archive_demand.specs.World.{event_in}
@@ -71,13 +71,13 @@ look_stretch (bus.Number a) k = if EF a || FF a then none else some 0
 look_stretch bus.Nothing k = k
 look_stretch (bus.Refused n) k = k
 
-abbrev pub stretch : Access → BusAnswer → Option ℕ → Option ℕ
-stretch (WriteByte o v) a k = k
-stretch (ReadByte o) a k = if eqb o 7 then look_stretch a k else k
-stretch (ReadWord o) a k = none
-stretch (NoAccess n) a k = k
+abbrev pub stretch : Result Access Refusal → BusAnswer → Option ℕ → Option ℕ
+stretch (Ok (WriteByte o v)) a k = k
+stretch (Ok (ReadByte o)) a k = if eqb o 7 then look_stretch a k else k
+stretch (Ok (ReadWord o)) a k = none
+stretch (Err e) a k = k
 
-abbrev pub note_turn : Access → BusAnswer → Bool → ℕ → List Sample → Bool → Log → Log
+abbrev pub note_turn : Result Access Refusal → BusAnswer → Bool → ℕ → List Sample → Bool → Log → Log
 note_turn x a begins selected out gap l =
     record {
       samples = if is_go x then [] else l.samples;
@@ -91,20 +91,20 @@ note_turn x a begins selected out gap l =
 
 module _ (M : Machine) where
   -- what an access brings; where none is named, the number by which it is not
-  abbrev pub brings_by : M.Board → Asked → BusAnswer
-  brings_by b (Made ev) = brought_by (M.answered b ev)
-  brings_by b (NotMade n) = bus.Refused n
+  abbrev pub brings_by : M.Board → Result Event Refusal → BusAnswer
+  brings_by b (Ok ev) = brought_by (M.answered b ev)
+  brings_by b (Err e) = bus.Refused e.number
 
-  abbrev pub begins_by : M.Board → Asked → Bool
-  begins_by b (Made ev) = M.begins b ev
-  begins_by b (NotMade n) = false
+  abbrev pub begins_by : M.Board → Result Event Refusal → Bool
+  begins_by b (Ok ev) = M.begins b ev
+  begins_by b (Err e) = false
 
   abbrev pub selected : M.Board → ℕ
   selected b = (M.view b).converter.selected
 
 module _ (M : Machine) (H : Host) where
   -- the access that the collector makes now
-  abbrev pub asks : System M → Access
+  abbrev pub asks : System M → Result Access Refusal
   asks x = H.access x.collector
 
   abbrev pub note : System M → Happening → Log → Log

@@ -1,13 +1,14 @@
 -- The accesses of a start, and what happens outside a run: the parts `begins`, `polls`, `waits`, `ready` and `only-running` of demand 3. Assumes
 -- nothing.
 use Prim.Native.Nat.{ℕ, zero, suc, ◌≤◌, ◌<◌}
-use Rattle.std.specs.Prelude.{true, false, [], ◌≡◌}
+use Rattle.std.specs.Prelude.{true, false, [], ◌≡◌, Ok, Err}
 use Rattle.std.proofs.Common.{true≢false, sym, ◌∙◌, arith}
 use Rattle.std.proofs.Math.Path.{refl}
 use Rattle.base.specs.Flags.{on}
+use Rattle.base.specs.Checks.{refused_by}
 use Rattle.board_events.specs.declared.Answer.TheVariants.{Done}
 use Rattle.board_events.specs.declared.Event.TheVariants as event
-use Rattle.collector_phases.specs.declared.Access.TheVariants.{WriteByte, ReadByte, NoAccess}
+use Rattle.collector_phases.specs.declared.Access.TheVariants.{WriteByte, ReadByte}
 use Rattle.collector_phases.specs.declared.Collector.{Collector}
 use Rattle.collector_settings.specs.declared.Settings.{Settings}
 use Rattle.collector_steps.specs.declared.Taken.{Taken}
@@ -90,11 +91,11 @@ module _ (M : Machine) (Working : M.Board → Type 0) (laws : Laws M Working) wh
     -- the reply to an access that is answered, in phase p
     module _ (p : Phase) (e : phase_of c.phase ≡ p) where
       -- a write
-      wrote : (o n : ℕ) → access_in p c.settings ≡ WriteByte o n → M.answered b (event.WriteByte o n) ≡ Done
+      wrote : (o n : ℕ) → access_in p c.settings ≡ Ok (WriteByte o n) → M.answered b (event.WriteByte o n) ≡ Done
           → turning M words x ≡ taken_by (replied c (bus.Number 0)) (M.stepped b (event.WriteByte o n))
       wrote o n a d = turn_of_lem M Working laws x fc ∙ rw (e, a, d)
 
-      polled : access_in p c.settings ≡ ReadByte 8
+      polled : access_in p c.settings ≡ Ok (ReadByte 8)
           → turning M words x ≡ taken_by (replied c (bus.Number (laws.polls b wk).byte)) (M.stepped b (event.ReadByte 8))
       polled a = turn_of_lem M Working laws x fc ∙ rw (e, a, (laws.polls b wk).serves.answers)
 
@@ -107,7 +108,7 @@ module _ (M : Machine) (Working : M.Board → Type 0) (laws : Laws M Working) wh
     by-reply : (r : Taken) (b' : M.Board) → turning M words x ≡ taken_by r b' → HandsNothing r → Quietly
     by-reply r b' e s = rw e (s.samples, s.gap)
 
-    quiet_write : (p : Phase) → phase_of c.phase ≡ p → Starting p → (o n : ℕ) → access_in p c.settings ≡ WriteByte o n
+    quiet_write : (p : Phase) → phase_of c.phase ≡ p → Starting p → (o n : ℕ) → access_in p c.settings ≡ Ok (WriteByte o n)
         → M.answered b (event.WriteByte o n) ≡ Done → Quietly
     quiet_write p e s o n a d =
         let r = replied c (bus.Number 0) in by-reply r _ (wrote p e o n a d) (silent-step c (bus.Number 0) p r s (st p e 0))
@@ -218,15 +219,15 @@ module _ (M : Machine) (Working : M.Board → Type 0) (laws : Laws M Working) wh
   by-phase t x s p e = access-fit _ (sound M Working laws t x (begin ▸ turn) s).fit ∙ rw e
 
   pub polls-at : (t : Settings) (x : System M) → Sound M Working laws t x → phase_of x.collector.phase ≡ Stop
-      → access_of (next M words x turn).collector ≡ ReadByte 8
+      → access_of (next M words x turn).collector ≡ Ok (ReadByte 8)
   polls-at t x s p = by-phase t x s Poll (stop-turn x s.works s.fit p)
 
   pub waits-at : (t : Settings) (x : System M) → Sound M Working laws t x → phase_of x.collector.phase ≡ Poll
       → on (M.view x.board).converter.converting ≡ true
-      → Either (access_of (next M words x turn).collector ≡ ReadByte 8) (access_of (next M words x turn).collector ≡ NoAccess 15)
+      → Either (access_of (next M words x turn).collector ≡ Ok (ReadByte 8)) (access_of (next M words x turn).collector ≡ Err (refused_by 15))
   waits-at t x s p f = by (busy-turn x s.works s.fit p f)
     where
       by : Either (phase_of (next M words x turn).collector.phase ≡ Poll) (phase_of (next M words x turn).collector.phase ≡ Stuck)
-          → Either (access_of (next M words x turn).collector ≡ ReadByte 8) (access_of (next M words x turn).collector ≡ NoAccess 15)
+          → Either (access_of (next M words x turn).collector ≡ Ok (ReadByte 8)) (access_of (next M words x turn).collector ≡ Err (refused_by 15))
       by (first e) = first (by-phase t x s Poll e)
       by (second e) = second (by-phase t x s Stuck e)

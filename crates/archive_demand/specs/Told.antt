@@ -1,8 +1,9 @@
 -- The phase of a fit collector, told by its access. Assumes nothing.
-use Rattle.std.specs.Prelude.{ℕ, zero, suc, Bool, true, false, ◌&&◌, ◌≡◌, refl, eqb, if◌then◌else◌}
+use Rattle.std.specs.Prelude.{ℕ, zero, suc, Bool, true, false, ◌&&◌, ◌≡◌, refl, Result, Ok, Err, eqb, if◌then◌else◌}
 use Rattle.std.proofs.Common.{sym, ◌∙◌, subst}
+use Rattle.base.specs.declared.Refusal.{Refusal}
 use Rattle.collector_phases.specs.declared.Access.{Access}
-use Rattle.collector_phases.specs.declared.Access.TheVariants.{WriteByte, ReadByte, ReadWord, NoAccess}
+use Rattle.collector_phases.specs.declared.Access.TheVariants.{WriteByte, ReadByte, ReadWord}
 use Rattle.collector_phases.specs.declared.Collector.{Collector}
 use Rattle.collector_settings.specs.declared.Settings.{Settings}
 use Rattle.collector_phases.specs.declared.Phase.{Phase}
@@ -13,13 +14,13 @@ use Rattle.collector_phases.specs.Accesses.{access_of}
 use Rattle.collector.specs.Steps.{access-fit}
 
 -- ---- only the phase Look reads offset 7, only Poll reads 8, and only Stop writes 0 to 9
-abbrev place : Access → ℕ
-place (WriteByte o v) = if eqb o 9 && eqb v 0 then 3 else 0
-place (ReadByte o) = if eqb o 7 then 1 else if eqb o 8 then 2 else 0
-place (ReadWord o) = 0
-place (NoAccess n) = 0
+abbrev place : Result Access Refusal → ℕ
+place (Ok (WriteByte o v)) = if eqb o 9 && eqb v 0 then 3 else 0
+place (Ok (ReadByte o)) = if eqb o 7 then 1 else if eqb o 8 then 2 else 0
+place (Ok (ReadWord o)) = 0
+place (Err e) = 0
 
-abbrev pub Told : Access → Phase → Type 0
+abbrev pub Told : Result Access Refusal → Phase → Type 0
 Told x p = by (place x)
   where
     by : ℕ → Type 0
@@ -37,7 +38,7 @@ told_in Low s = tt
 told_in High s = tt
 told_in Go s = by (eqb s.clock 0)
   where
-    by : (external : Bool) → Told (WriteByte 9 (if external then 2 else 3)) Go
+    by : (external : Bool) → Told (Ok (WriteByte 9 (if external then 2 else 3))) Go
     by true = tt
     by false = tt
 told_in Look s = refl
@@ -47,6 +48,6 @@ told_in Stuck s = tt
 told_in Unknown s = tt
 
 -- the phase of a fit collector that makes the access x
-pub phase-told : (c : Collector) (x : Access) → FitCollector c → access_of c ≡ x → Told x (phase_of c.phase)
+pub phase-told : (c : Collector) (x : Result Access Refusal) → FitCollector c → access_of c ≡ x → Told x (phase_of c.phase)
 phase-told c x f e =
-    subst (λ (y : Access). Told y (phase_of c.phase)) (sym (access-fit c f) ∙ e) (told_in (phase_of c.phase) c.settings)
+    subst (λ (y : Result Access Refusal). Told y (phase_of c.phase)) (sym (access-fit c f) ∙ e) (told_in (phase_of c.phase) c.settings)

@@ -1,7 +1,8 @@
 -- The collector's turn keeps what holds in each phase. Assumes nothing.
-use Rattle.std.specs.Prelude.{ℕ, ◌≤◌, ◌<◌, false, List, [], ◌∷◌, ◌++◌, ◌≡◌, refl, length}
+use Rattle.std.specs.Prelude.{ℕ, ◌≤◌, ◌<◌, false, List, [], ◌∷◌, ◌++◌, ◌≡◌, refl, Result, length}
 use Rattle.std.proofs.Common.{append_assoc, append-nil, sym, ◌∙◌, ap, arith}
 use Rattle.std.proofs.Math.Option.{Option, none, some}
+use Rattle.base.specs.declared.Refusal.{Refusal}
 use Rattle.converter.specs.Codes.{sample_of}
 use Rattle.collector_phases.specs.declared.Access.{Access}
 use Rattle.collector_settings.specs.declared.Settings.{Settings}
@@ -31,7 +32,8 @@ rewaiting l w =
       within = l.within;
     }
 
-pub still : (x : Access) (a : BusAnswer) (ch : ℕ) (l : Log) → is_go x ≡ false → note_turn x a false ch [] false l ≡ rewaiting l (stretch x a l.waiting)
+pub still : (x : Result Access Refusal) (a : BusAnswer) (ch : ℕ) (l : Log) → is_go x ≡ false
+    → note_turn x a false ch [] false l ≡ rewaiting l (stretch x a l.waiting)
 still x a ch l g = rw (g, append-nil l.handed, append-nil l.since_gap)
 
 module _ (l : Log) (w : Option ℕ) where

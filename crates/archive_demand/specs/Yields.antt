@@ -1,5 +1,5 @@
 -- What a look yields, and what follows it. Assumes nothing.
-use Rattle.std.specs.Prelude.{ℕ, suc, ◌+◌, ◌≤◌, ◌<◌, Bool, List, [], ◌∷◌, ◌++◌, ◌≡◌, ℤ, length, if◌then◌else◌}
+use Rattle.std.specs.Prelude.{ℕ, suc, ◌+◌, ◌≤◌, ◌<◌, Bool, List, [], ◌∷◌, ◌++◌, ◌≡◌, Ok, ℤ, length, if◌then◌else◌}
 use Rattle.std.proofs.Math.Bool.{true, false}
 use Rattle.std.proofs.Common.{append_assoc, append-nil, sym, ◌∙◌, ap, subst, arith, length-append}
 use Rattle.std.proofs.Math.Path.{refl}
@@ -167,7 +167,7 @@ module _ (M : Machine) (Working : M.Board → Type 0) (laws : Laws M Working) wh
 
   -- a word read by a fit collector in phase p, d being the oldest sample held
   word-turn : (x : System M) (p : Phase) (d : ℕ) (rest : List ℕ) → FitCollector x.collector → Working x.board → phase_of x.collector.phase ≡ p
-      → access_in p x.collector.settings ≡ ReadWord 0 → (M.view x.board).held ≡ d ∷ rest
+      → access_in p x.collector.settings ≡ Ok (ReadWord 0) → (M.view x.board).held ≡ d ∷ rest
       → turning M words x ≡ taken_by (replied x.collector (bus.Number d)) (M.stepped x.board (event.ReadWord 0))
   word-turn x p d rest f wk e a h = turn_of_lem x f ∙ rw (e, a, (laws.words x.board wk).oldest d rest h)
 

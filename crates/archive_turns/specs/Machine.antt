@@ -1,7 +1,8 @@
 -- A board as the collector and an onlooker see it, and whatever drives it by bus accesses. The product's own are in Real and Hosts; the theorem about
 -- them is stated over any board and any driver, so that wrong ones can be refuted too.
-use Rattle.std.specs.Prelude.{ℕ, Bool, List, ℤ}
+use Rattle.std.specs.Prelude.{ℕ, Bool, List, Result, ℤ}
 use Rattle.std.proofs.Math.Option.{Option}
+use Rattle.base.specs.declared.Refusal.{Refusal}
 use Rattle.converter.specs.declared.channels.Converter.{Converter}
 use Rattle.board_events.specs.declared.Answer.{Answer}
 use Rattle.board_events.specs.declared.Event.{Event}
@@ -29,6 +30,6 @@ pub record Machine : Type 1 where
 
 pub record Host : Type 0 where
   -- the access that it makes now
-  pub access : Collector → Access
+  pub access : Collector → Result Access Refusal
   -- what it does with what the access brought: a number, nothing, or a refusal of the board
   pub reply : Collector → BusAnswer → Taken

@@ -2,20 +2,13 @@
 // access that the collector names is made as an event of the board, and the board's answer is handed to the collector.
 #![tactic(auto)]
 
-ghost use Rattle.std.specs.Prelude.{◌≡◌};
+ghost use Rattle.std.specs.Prelude.{◌≡◌, Ok};
 ghost use Rattle.archive_turns.specs.Turn.{event_of, brought_by, unturned, taken_by};
 ghost use Rattle.archive_turns.specs.Real.{as_struct, Left, lent_turn};
 ghost use Rattle.archive_turns.specs.Hosts.{words};
 
 use board::{Answer, Board, Event};
 use collector::{Access, BusAnswer, Collector, Handed};
-
-// What an access is on the board: an event, or none, with the number by which the collector names none.
-#[derive(Clone, Copy)]
-pub enum Asked {
-    Made(Event),
-    NotMade(u8),
-}
 
 // After a turn: the collector, the board, the polls of the current start (with a gap, of the start that ends), and what is handed over.
 #[derive(Clone, Copy)]
@@ -27,21 +20,20 @@ pub struct Turned {
 }
 
 // The event of an access.
-pub fn event_of(access: Access) -> Asked
-    ensures { result ≡ event_of access }
+pub fn event_of(access: Access) -> Event
+    ensures { Ok result ≡ event_of (Ok access) }
 {
     match access {
-        Access::WriteByte { offset, value } => Asked::Made(Event::WriteByte {
+        Access::WriteByte { offset, value } => Event::WriteByte {
             offset: offset as u32,
             value,
-        }),
-        Access::ReadByte { offset } => Asked::Made(Event::ReadByte {
+        },
+        Access::ReadByte { offset } => Event::ReadByte {
             offset: offset as u32,
-        }),
-        Access::ReadWord { offset } => Asked::Made(Event::ReadWord {
+        },
+        Access::ReadWord { offset } => Event::ReadWord {
             offset: offset as u32,
-        }),
-        Access::NoAccess(number) => Asked::NotMade(number),
+        },
     }
 }
 
@@ -75,13 +67,11 @@ fn hand_over(collector: Collector, board: Board, answer: Answer) -> Turned
     ensures { result ≡ as_struct (taken_by (words.reply collector (brought_by answer)) board) }
 {
     let taken = collector::take_answer(collector, bus_answer(answer));
-    let after = taken.collector;
-    let handed = taken.handed;
     Turned {
-        collector: after,
+        collector: taken.collector,
         board,
         polls: taken.polls,
-        handed,
+        handed: taken.handed,
     }
 }
 
@@ -90,13 +80,11 @@ fn hand_over(collector: Collector, board: Board, answer: Answer) -> Turned
 pub fn turn(collector: Collector, board: Board, memory: &mut [u16], eeprom: &mut [u8]) -> Turned
     ensures { Left (lent_turn collector board memory.old eeprom.old) result memory.new eeprom.new }
 {
-    match event_of(collector::access_of(collector)) {
-        Asked::Made(event) => {
-            let outcome = board::step(board, memory, eeprom, event);
-            let after = outcome.board;
-            let answer = outcome.answer;
-            hand_over(collector, after, answer)
+    match collector::access_of(collector) {
+        Ok(access) => {
+            let outcome = board::step(board, memory, eeprom, event_of(access));
+            hand_over(collector, outcome.board, outcome.answer)
         }
-        Asked::NotMade(number) => without_access(collector, board, number),
+        Err(refusal) => without_access(collector, board, refusal.number),
     }
 }

@@ -1,5 +1,6 @@
 -- Refusals as a row of checks, each a test and the number that it refuses by: the first that holds is the answer.
-use Rattle.std.specs.Prelude.{Bool, List, [], ◌∷◌, ℕ, if◌then◌else◌}
+use Rattle.std.specs.Prelude.{Bool, List, [], ◌∷◌, ℕ, Result, Ok, Err, if◌then◌else◌}
+use Rattle.base.specs.declared.Refusal.{Refusal}
 
 pub record Check : Type 0 where
   pub holds : Bool
@@ -14,3 +15,12 @@ t refuses n = record { holds = t; number = n }
 abbrev pub refusal : List Check → ℕ
 refusal [] = 0
 refusal (c ∷ cs) = if c.holds then c.number else refusal cs
+
+-- the refusal of this number, as an error
+abbrev pub refused_by : ℕ → Refusal
+refused_by n = record { number = n }
+
+-- what comes of the checks: the refusal by the first that holds, if any
+abbrev pub checked : List Check → Result (Unit {0}) Refusal
+checked [] = Ok tt
+checked (c ∷ cs) = if c.holds then Err (refused_by c.number) else checked cs

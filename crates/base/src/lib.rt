@@ -1,9 +1,26 @@
 // What all crates share stands in specs/: choices by a test, the fields of a byte, rows of tests, numbers side by side. The functions make a bit of
-// a byte that is read, and put two numbers side by side into one of twice the width, the first in its low bits.
+// a byte that is read, and put two numbers side by side into one of twice the width, the first in its low bits. A refusal is an error, by its number.
 #![tactic(auto)]
 
 ghost use Rattle.std.specs.Prelude.{◌≡◌, ◌+◌, ◌*◌, ◌≤◌};
 ghost use Rattle.base.specs.Weights.{weight_of};
+
+use std::error::Error;
+use std::fmt;
+
+// What is refused, by its number in the table of the specification.
+#[derive(Clone, Copy, Debug, PartialEq, Eq)]
+pub struct Refusal {
+    pub number: u8,
+}
+
+impl fmt::Display for Refusal {
+    fn fmt<W: fmt::Write>(&self, f: &mut fmt::Formatter<W>) -> fmt::Result {
+        write!(f, "refused {}", self.number)
+    }
+}
+
+impl Error for Refusal {}
 
 // The weight w of a bit that is set, else 0.
 pub fn weight(set: bool, w: u8) -> u8

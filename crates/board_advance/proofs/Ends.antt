@@ -4,6 +4,9 @@ use native.Mathlib.Omega.{arith}
 use mathlib.Core.Path.{◌≡◌, refl, sym, ap, ◌∙◌}
 use mathlib.Core.Bool.{Bool, true, false, not, ◌&&◌, ◌||◌}
 use mathlib.Core.List.{List}
+use Rattle.std.specs.Prelude.{Result, Ok, Err, is_err}
+use Rattle.base.specs.declared.Refusal.{Refusal}
+use Rattle.base.specs.Checks.{checked}
 use Rattle.base.specs.Flags.{on}
 use Rattle.base.specs.Laws.{never, not_true, not_not}
 use Rattle.converter.specs.Channels.{triggered}
@@ -20,9 +23,10 @@ use Rattle.machine_strides.specs.Strides.{stride_of}
 use Rattle.machine_strides.specs.declared.Stride.{Stride}
 use Rattle.board_stores.specs.Stores.{wrong_lengths}
 use Rattle.board_refusal.specs.Working.{is_working_board}
-use Rattle.board_refusal.specs.Refusals.{event_checks, checks}
-use Rattle.board_step.specs.Ways.{Opened}
+use Rattle.board_refusal.specs.Refusals.{event_checks, checks, first_checks}
+use Rattle.board_step.specs.Ways.{Opened, first, stops}
 use Rattle.board_events.specs.declared.Answer.TheVariants.{Refused, Done}
+use Rattle.board_events.specs.declared.Event.TheVariants.{Tick}
 use Rattle.board_advance.specs.Advance.{advanced_of}
 use Rattle.board_advance.specs.Strided.{heeds0, heeds2, stride_at, stride_end, unheeded, begins_in, begins_in-one}
 use Rattle.board_advance.proofs.Strided.{strided}
@@ -35,15 +39,16 @@ unfolding stride_at
 strides b n g h0 h2 s = s ∙ rw (g, h0, h2)
 
 module _ (b : Board) (m e : List ℕ) (n : ℕ) where
-  -- ---- refused by 2, and by 1
-  pub wrong : wrong_lengths m e ≡ true → record { board = b; progress = record { answer = Refused 2; done = 0 } } ≡ advanced_of b m e n
-  unfolding advanced_of checks
-  wrong h = rw h
+  -- ---- refused, by 2 or 1
+  pub stopped : {x : Result (Unit {0}) Refusal} {r : Refusal} → x ≡ checked (first_checks b m e) → x ≡ Err r
+      → record { board = b; progress = record { answer = Refused r.number; done = 0 } } ≡ advanced_of b m e n
+  unfolding advanced_of
+  stopped k h = let f = first b m e Tick k h in rw (f.0, f.1)
 
-  pub broken : {w : Bool} → wrong_lengths m e ≡ false → w ≡ is_working_board b m → not w ≡ true
-      → record { board = b; progress = record { answer = Refused 1; done = 0 } } ≡ advanced_of b m e n
-  unfolding advanced_of checks
-  broken {w} l k h = let f : is_working_board b m ≡ false = sym k ∙ not_true w h in rw (l, f)
+  -- none is done
+  pub none_done : {x : Result (Unit {0}) Refusal} → x ≡ checked (first_checks b m e) → is_err x ≡ true → 0 ≡ (advanced_of b m e n).progress.done
+  unfolding advanced_of
+  none_done k h = rw (stops b m e Tick k h)
 
   -- ---- not refused
   pub strode : Opened b m e → advanced_of b m e n ≡ stride_end b (stride_at b n)

@@ -8,7 +8,7 @@ ghost use Rattle.board_advance.specs.Strided.{heeds0, heeds2, stride_at, begins_
 
 use board_events::Answer;
 use machine::Board;
-use machine_strides::Stride;
+use machine_strides::{Setting, Stride};
 
 // The answer, and how many ticks were done.
 #[derive(Clone, Copy)]
@@ -42,11 +42,7 @@ fn heeds_2(b: Board) -> bool
 fn busy_after(busy: u8, ticks: u32) -> u8
     ensures { result ≡ busy - ticks }
 {
-    if (busy as u32) < ticks {
-        0
-    } else {
-        (busy as u32 - ticks) as u8
-    }
+    (busy as u32).saturating_sub(ticks) as u8
 }
 
 // The clocks of a working board after ticks, as far as the first with which the host has something to do.
@@ -54,15 +50,11 @@ fn stride(b: Board, ticks: u32) -> Stride
     requires { WorkingMachine b }
     ensures { result ≡ stride_at b ticks }
 {
-    let g = machine::gates_at(b.registers.counting, b.pins.din);
-    machine_strides::run(
-        b.clocks,
-        b.registers.counting,
-        g,
-        heeds_0(b),
-        heeds_2(b),
-        ticks,
-    )
+    let by = Setting {
+        counting: b.registers.counting,
+        gates: machine::gates_at(b.registers.counting, b.pins.din),
+    };
+    machine_strides::run(b.clocks, by, heeds_0(b), heeds_2(b), ticks)
 }
 
 // Ticks, `ticks` at the utmost, as far as the first in which a conversion has begun or a request flag has gone up. The memories stay as they are.
@@ -72,14 +64,9 @@ pub fn advance(board: Board, memory: &mut [u16], eeprom: &mut [u8], ticks: u32) 
     ensures eeprom_unchanged { eeprom.new ≡ eeprom.old }
 {
     let mut c = board;
-    let progress = if (memory.len() != 512) | (eeprom.len() != 128) {
+    let progress = if let Err(refusal) = board_refusal::check(c, memory, eeprom) {
         Progress {
-            answer: Answer::Refused(2),
-            done: 0,
-        }
-    } else if !board_refusal::is_working(c, memory) {
-        Progress {
-            answer: Answer::Refused(1),
+            answer: Answer::Refused(refusal.number),
             done: 0,
         }
     } else {
@@ -103,10 +90,7 @@ pub fn advance(board: Board, memory: &mut [u16], eeprom: &mut [u8], ticks: u32) 
 pub fn ticks_until(board: Board, memory: &[u16], eeprom: &[u8], most: u32) -> u32
     ensures { result ≡ (advanced_of board memory.now eeprom.now most).progress.done }
 {
-    if (memory.len() != 512) | (eeprom.len() != 128) {
-        return 0;
-    }
-    if !board_refusal::is_working(board, memory) {
+    if board_refusal::check(board, memory, eeprom).is_err() {
         return 0;
     }
     if !(heeds_0(board) | heeds_2(board)) {

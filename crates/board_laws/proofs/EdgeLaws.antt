@@ -1,14 +1,14 @@
 -- Theorems that rest on theorems of specs/EdgeLaws.antt, and promise as those do. What specs/EdgeLaws.antt says of itself:
 -- Writes of 9 and 10 and resets, part by part: laws for the theorem that they are no edge.
-use Rattle.std.specs.Prelude.{ℕ, ◌≡◌, Bool, true, false, not, ◌&&◌}
+use Rattle.std.specs.Prelude.{ℕ, ◌≡◌, Bool, true, false, not, ◌&&◌, Option, Some, None}
 use Rattle.std.proofs.Math.Path.{refl, subst}
 use Rattle.std.proofs.Common.{sym, ◌∙◌, eq-eqb}
 use Rattle.base.specs.Checks.{refusal}
 use Rattle.base.specs.Flags.{on}
 use Rattle.fifo.specs.declared.Fifo.{Fifo}
 use Rattle.counter_modes.specs.Control.{setup_of}
-use Rattle.counter_modes.specs.declared.Setup.{Setup}
-use Rattle.counter_modes.specs.declared.Setup.TheVariants.{Unprogrammed, Programmed}
+use Rattle.counter_modes.specs.declared.Format.{Format}
+use Rattle.counter_modes.specs.declared.Mode.{Mode}
 use Rattle.counter_one.specs.Counter.{gate_moved_as, gate_moved}
 use Rattle.counter_one.specs.Edges.{gate_no_fall}
 use Rattle.counter_one.specs.Still.{gate-still}
@@ -40,9 +40,9 @@ gate-unclocked : (c : Counter) (was is : Bool) → Unclocked c (gate_moved c was
 unfolding gate_moved
 gate-unclocked c was is = by (setup_of c.control) (gate_no_fall c was is)
   where
-    by : (s : Setup) → fell (on c.count.out) (on (gate_moved_as s c was is).count.out) ≡ false → Unclocked c (gate_moved_as s c was is)
-    by Unprogrammed h = record { element = refl; register = refl; waiting = refl; loaded = refl; out = h }
-    by (Programmed f m) h = record { element = refl; register = refl; waiting = refl; loaded = refl; out = h }
+    by : (s : Option (Format × Mode)) → fell (on c.count.out) (on (gate_moved_as s c was is).count.out) ≡ false → Unclocked c (gate_moved_as s c was is)
+    by None h = record { element = refl; register = refl; waiting = refl; loaded = refl; out = h }
+    by (Some (f, m)) h = record { element = refl; register = refl; waiting = refl; loaded = refl; out = h }
 
 -- ---- a flag that is clear has not gone up
 cleared_not_risen : (n : ℕ) → rose n 0 ≡ false

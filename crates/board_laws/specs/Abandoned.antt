@@ -1,6 +1,6 @@
 -- When a conversion is in progress after an event, what abandons one, and where its sample goes (the specification, "Conversions, edges and
 -- requests", and "8 write").
-use Rattle.std.specs.Prelude.{ℕ, ◌≡◌, refl, Bool, true, false, not, ◌&&◌, ◌||◌, List, [], ◌∷◌, ◌++◌, ℤ, eqb, if◌then◌else◌}
+use Rattle.std.specs.Prelude.{ℕ, ◌≡◌, refl, Bool, true, false, not, ◌&&◌, ◌||◌, List, [], ◌∷◌, ◌++◌, ℤ, eqb, if◌then◌else◌, Option}
 use Rattle.std.proofs.Common.{sym, ap, ◌∙◌, eqb-true}
 use Rattle.base.specs.Flags.{on}
 use Rattle.fifo.specs.Samples.{pushed}
@@ -19,17 +19,16 @@ use Rattle.board_refusal.specs.Working.{WorkingBoard}
 use Rattle.board_step.specs.Step.{ran, ran_from}
 use Rattle.board_laws.specs.Begins.{begins, begins_on, ends, keeps, resets, abandons}
 use Rattle.base.specs.Laws.{never, both}
-use Rattle.fifo.specs.declared.OldestSample.{OldestSample}
 use Rattle.board_laws.specs.Conversions.{free, write-begun, begun, over, stays_same, counter0-same, out2_trigger, clocked1, din_trigger}
 use Rattle.board_events.specs.declared.Event.{Event}
 use Rattle.board_events.specs.declared.Event.TheVariants.{WriteByte, ReadByte, ReadWord, ConversionEnd, DinPins, LatchLevel, PortPins, Tick, TransferEnd}
 
 -- whether a conversion is in progress after an event that is not refused
-abbrev pub runs_after : Board → OldestSample → List ℕ → Event → Bool
+abbrev pub runs_after : Board → Option ℕ → List ℕ → Event → Bool
 runs_after b o e ev = on (acted b o e ev).board.converter.converting
 
 -- ---- a reset leaves the converter as a fresh board's: no conversion is in progress
-pub reset-fresh : (b : Board) (o : OldestSample) (e : List ℕ) (ev : Event) → resets ev ≡ true → (acted b o e ev).board.converter ≡ fresh_converter
+pub reset-fresh : (b : Board) (o : Option ℕ) (e : List ℕ) (ev : Event) → resets ev ≡ true → (acted b o e ev).board.converter ≡ fresh_converter
 unfolding acted resets written_at misc_written board_reset place_of
 reset-fresh b o e (WriteByte n v) h =
     let k = both (eqb n 8) (is_reset v) h in
@@ -44,7 +43,7 @@ reset-fresh b o e (PortPins q v) h = never h
 reset-fresh b o e Tick h = never h
 reset-fresh b o e TransferEnd h = never h
 
-module _ (b : Board) (o : OldestSample) (e : List ℕ) (ev : Event) where
+module _ (b : Board) (o : Option ℕ) (e : List ℕ) (ev : Event) where
   runs : {c : Converter} → (acted b o e ev).board.converter ≡ c → runs_after b o e ev ≡ on c.converting
   runs h = ap (λ (c : Converter). on c.converting) h
 
@@ -61,7 +60,7 @@ module _ (b : Board) (o : OldestSample) (e : List ℕ) (ev : Event) where
   in_progress_lem = progress (begins b ev) (ends ev) (resets ev) refl refl refl
 
 -- it begins on the selected channel
-pub begins-on : (b : Board) (o : OldestSample) (e : List ℕ) (ev : Event) → begins b ev ≡ true → (acted b o e ev).board.converter.channel ≡ begins_on b
+pub begins-on : (b : Board) (o : Option ℕ) (e : List ℕ) (ev : Event) → begins b ev ≡ true → (acted b o e ev).board.converter.channel ≡ begins_on b
 begins-on b o e ev h = ap (λ (c : Converter). c.channel) (begun b o e ev h)
 
 -- ---- an event that is no end begins a conversion only where none is in progress
@@ -93,7 +92,7 @@ end_stays Tick h = refl
 end_stays TransferEnd h = refl
 
 -- ---- an event abandons a conversion exactly where one was in progress, the event is no end, and none is in progress after it
-pub abandoned : (b : Board) (o : OldestSample) (e : List ℕ) (ev : Event)
+pub abandoned : (b : Board) (o : Option ℕ) (e : List ℕ) (ev : Event)
     → abandons b ev ≡ on b.converter.converting && not (ends ev) && not (runs_after b o e ev)
 abandoned b o e ev = by (on b.converter.converting) (ends ev) (begins b ev) (resets ev) refl refl refl refl
   where

@@ -1,10 +1,8 @@
 -- The answer of a step in the specification's numbers: the number that it is refused by, and the value that a guest is shown.
-use Rattle.std.specs.Prelude.{ℕ, ◌≡◌, refl, Bool, true, false, List, eqb, if◌then◌else◌}
+use Rattle.std.specs.Prelude.{ℕ, ◌≡◌, refl, Bool, true, false, List, eqb, if◌then◌else◌, Option, Some, None}
 use Rattle.std.proofs.Common.{sym, ◌∙◌, eqb-true}
 use Rattle.fifo.specs.Samples.{oldest_of}
 use Rattle.fifo.specs.Queue.{queue}
-use Rattle.fifo.specs.declared.OldestSample.{OldestSample}
-use Rattle.fifo.specs.declared.OldestSample.TheVariants.{NoneHeld, Sample}
 use Rattle.machine_record.specs.declared.Board.{Board}
 use Rattle.bus.specs.Place.{place_of}
 use Rattle.bus.specs.Registers.{byte_at}
@@ -27,9 +25,9 @@ value_brought b samples (PortPins q v) = 0
 value_brought b samples Tick = 0
 value_brought b samples TransferEnd = 0
 
-word-taken : (o : OldestSample) → refusal_number (word_read_answer o) ≡ 0
-word-taken NoneHeld = refl
-word-taken (Sample sample) = refl
+word-taken : (o : Option ℕ) → refusal_number (word_read_answer o) ≡ 0
+word-taken None = refl
+word-taken (Some sample) = refl
 
 -- it is answered by no refusal
 acted-answer : (b : Board) (samples e : List ℕ) (ev : Event)

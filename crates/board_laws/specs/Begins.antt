@@ -1,6 +1,6 @@
 -- Which events begin a conversion, and on which channel; which end one, and how; which abandon one. From the specification's trigger rules ("Conversions, edges
 -- and requests"), over the board before the event and an event that it does not refuse. A conversion that begins is of the selected channel.
-use Rattle.std.specs.Prelude.{ℕ, Bool, true, false, ◌&&◌, eqb, ltb, ℤ}
+use Rattle.std.specs.Prelude.{ℕ, Bool, true, false, ◌&&◌, eqb, ltb, ℤ, Result, Ok, Err}
 use Rattle.std.proofs.Math.Option.{Option, none, some}
 use Rattle.base.specs.Flags.{on}
 use Rattle.converter.specs.Channels.{end_starts}
@@ -10,8 +10,7 @@ use Rattle.timer.specs.Timer.{out, clocked_if}
 use Rattle.timer.specs.Bus.{count_written, control_word_written}
 use Rattle.timer.specs.declared.Timer.{Timer}
 use Rattle.timer.specs.declared.Select.TheVariants.{Counter1, Counter2}
-use Rattle.timer.specs.declared.accesses.Written.{Written}
-use Rattle.timer.specs.declared.accesses.Written.TheVariants.{Accepted, Refused}
+use Rattle.base.specs.declared.Refusal.{Refusal}
 use Rattle.machine_clock.specs.Clock.{gates}
 use Rattle.machine_tick.specs.Tick.{clock1, dividers_ticked, counter0_ticked}
 use Rattle.machine_pins.specs.Pins.{fell_from, din_moved, triggers_stopped}
@@ -30,9 +29,9 @@ use Rattle.board_events.specs.declared.Event.TheVariants.{WriteByte, ReadByte, R
 abbrev pub timer_begins : Board → Timer → Bool
 timer_begins b t = internal_starts b.converter (on b.requests.clksel) (fell (out b.clocks.timer Counter2) (out t Counter2))
 
-abbrev pub written_begins : Board → Written → Bool
-written_begins b (Accepted t) = timer_begins b t
-written_begins b (Refused n) = false
+abbrev pub written_begins : Board → Result Timer Refusal → Bool
+written_begins b (Ok t) = timer_begins b t
+written_begins b (Err r) = false
 
 -- 0 is the software trigger; a write of page 0 may make OUT2 fall; "Writing 9 or 10, or a reset, ... is no clock edge or trigger"
 abbrev pub write_begins : Board → Place → ℕ → Bool

@@ -1,5 +1,5 @@
 -- An event begins a conversion, ends one, or leaves whether one runs, just as `begins`, `ends` and `resets` say.
-use Rattle.std.specs.Prelude.{ℕ, ◌≡◌, refl, Bool, true, false, not, ◌&&◌, List}
+use Rattle.std.specs.Prelude.{ℕ, ◌≡◌, refl, Bool, true, false, not, ◌&&◌, List, Result, Ok, Err, Option}
 use Rattle.std.proofs.Common.{sym, ap, ◌∙◌}
 use Rattle.base.specs.Flags.{on}
 use Rattle.base.specs.Fields.{bit}
@@ -13,9 +13,7 @@ use Rattle.timer.specs.Bus.{count_written, control_word_written}
 use Rattle.timer.specs.declared.Timer.{Timer}
 use Rattle.timer.specs.declared.Gates.{Gates}
 use Rattle.timer.specs.declared.Select.TheVariants.{Counter0, Counter1, Counter2}
-use Rattle.timer.specs.declared.accesses.Written.{Written}
-use Rattle.timer.specs.declared.accesses.Written.TheVariants.{Accepted, Refused}
-use Rattle.fifo.specs.declared.OldestSample.{OldestSample}
+use Rattle.base.specs.declared.Refusal.{Refusal}
 use Rattle.machine_clock.specs.Clock.{gates, timer_moved, timer_moved_by, counting_written}
 use Rattle.machine_tick.specs.InPlace.{no_edge}
 use Rattle.machine_tick.specs.Tick.{clock1, dividers_ticked, counter0_ticked, counter1_ticked, outputs_ticked, ticked}
@@ -75,10 +73,10 @@ pub record BeginsOne (b c : Board) : Type 0 where
 trigger-begun : (b c : Board) (t : Bool) → t && not (on b.converter.converting) ≡ true → c.converter ≡ triggered b.converter t → BeginsOne b c
 trigger-begun b c t h e = record { starts = e ∙ trigger-begins b.converter t h; none_before = free t (on b.converter.converting) h }
 
-written-begun : (b : Board) (w : Written) → written_begins b w ≡ true → BeginsOne b (timer_moved_by b w)
+written-begun : (b : Board) (w : Result Timer Refusal) → written_begins b w ≡ true → BeginsOne b (timer_moved_by b w)
 unfolding timer_moved
-written-begun b (Accepted t) h = trigger-begun b (timer_moved_by b (Accepted t)) (out2_trigger b t) h refl
-written-begun b (Refused n) h = never h
+written-begun b (Ok t) h = trigger-begun b (timer_moved_by b (Ok t)) (out2_trigger b t) h refl
+written-begun b (Err r) h = never h
 
 pub write-begun : (b : Board) (p : Place) (v : ℕ) → write_begins b p v ≡ true → BeginsOne b (written_at b p v)
 unfolding written_at
@@ -134,7 +132,7 @@ tick-lost b h =
 abbrev pub din_trigger : Board → ℕ → Bool
 din_trigger b n = external_trigger b.converter (on b.requests.clksel) (fell_from b.pins.din n 3) (triggers_stopped (din_moved b n))
 
-pub begun : (b : Board) (o : OldestSample) (e : List ℕ) (ev : Event) → begins b ev ≡ true → (acted b o e ev).board.converter ≡ started b.converter
+pub begun : (b : Board) (o : Option ℕ) (e : List ℕ) (ev : Event) → begins b ev ≡ true → (acted b o e ev).board.converter ≡ started b.converter
 unfolding acted begins
 begun b o e (WriteByte n v) h = (write-begun b (place_of b.registers.page n) v h).starts
 begun b o e (ReadByte n) h = never h
@@ -147,7 +145,7 @@ begun b o e Tick h = tick-begun b h
 begun b o e TransferEnd h = never h
 
 -- ---- an end that begins none leaves none in progress
-pub over : (b : Board) (o : OldestSample) (e : List ℕ) (ev : Event) → begins b ev ≡ false → ends ev ≡ true
+pub over : (b : Board) (o : Option ℕ) (e : List ℕ) (ev : Event) → begins b ev ≡ false → ends ev ≡ true
     → (acted b o e ev).board.converter ≡ idle b.converter
 unfolding acted begins ends
 over b o e (WriteByte n v) h k = never k
@@ -171,10 +169,10 @@ alike c = record { converting = refl; channel = refl }
 equal : (c d : Converter) → d ≡ c → Same c d
 equal c d h = record { converting = ap (λ (x : Converter). on x.converting) h; channel = ap (λ (x : Converter). x.channel) h }
 
-written-lost : (b : Board) (w : Written) → written_begins b w ≡ false → (timer_moved_by b w).converter ≡ b.converter
+written-lost : (b : Board) (w : Result Timer Refusal) → written_begins b w ≡ false → (timer_moved_by b w).converter ≡ b.converter
 unfolding timer_moved
-written-lost b (Accepted t) h = trigger-lost b.converter (out2_trigger b t) h
-written-lost b (Refused n) h = refl
+written-lost b (Ok t) h = trigger-lost b.converter (out2_trigger b t) h
+written-lost b (Err r) h = refl
 
 misc_same : (b : Board) (v : ℕ) → is_reset v ≡ false → (misc_written b v).converter ≡ b.converter
 unfolding misc_written requests_cleared page_set
@@ -207,7 +205,7 @@ write_same b CalBase14 v h k = alike b.converter
 write_same b CalBase15 v h k = alike b.converter
 write_same b Outside v h k = alike b.converter
 
-pub stays_same : (b : Board) (o : OldestSample) (e : List ℕ) (ev : Event) → begins b ev ≡ false → ends ev ≡ false → resets ev ≡ false
+pub stays_same : (b : Board) (o : Option ℕ) (e : List ℕ) (ev : Event) → begins b ev ≡ false → ends ev ≡ false → resets ev ≡ false
     → Same b.converter (acted b o e ev).board.converter
 unfolding acted begins ends resets latch_set port_set
 stays_same b o e (WriteByte n v) h k a = write_same b (place_of b.registers.page n) v h (place-resets b.registers.page n v ∙ a)

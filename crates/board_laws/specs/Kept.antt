@@ -1,6 +1,6 @@
 -- Every event keeps a working board working, and a fresh board with fresh stores is one. The specification, "What is delivered"; condition 1
 -- of acceptance: what is refused leaves board record, sample memory and EEPROM as they were.
-use Rattle.std.specs.Prelude.{ℕ, ◌≡◌, Bool, List, [], if◌then◌else◌}
+use Rattle.std.specs.Prelude.{ℕ, ◌≡◌, Bool, List, [], if◌then◌else◌, Option}
 use Rattle.std.proofs.Math.Path.{refl}
 use Rattle.std.proofs.Math.Bool.{true, false}
 use borrow.Author.Tests.{eqb-true, ne_eqb}
@@ -19,7 +19,6 @@ use Rattle.machine_record.specs.Fresh.{fresh_board}
 use Rattle.machine_reset.specs.Reset.{board_reset}
 use Rattle.machine_record.specs.Working.{WorkingMachine}
 use Rattle.base.specs.Flags.{nonzero, on-flag}
-use Rattle.fifo.specs.declared.OldestSample.{OldestSample}
 use Rattle.converter.specs.Channels.{is_last}
 use Rattle.requests.specs.Working as requests
 use Rattle.machine_record.specs.Kept.{converter-kept, calibration-kept, same-working, fresh-working}
@@ -40,7 +39,7 @@ use Rattle.board_events.specs.declared.Event.{Event}
 use Rattle.board_events.specs.declared.Event.TheVariants.{WriteByte, ReadByte, ReadWord, ConversionEnd, DinPins, LatchLevel, PortPins, Tick, TransferEnd}
 
 -- ---- the record
-pub acted-works : (b : Board) (o : OldestSample) (e : List ℕ) (ev : Event) → WorkingMachine b → refusal (event_checks b ev) ≡ 0
+pub acted-works : (b : Board) (o : Option ℕ) (e : List ℕ) (ev : Event) → WorkingMachine b → refusal (event_checks b ev) ≡ 0
     → WorkingMachine (acted b o e ev).board
 unfolding acted
 acted-works b o e (WriteByte n v) w h = written-works b (place_of b.registers.page n) v w

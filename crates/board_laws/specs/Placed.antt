@@ -1,15 +1,14 @@
 -- A board with another place of its oldest sample: no register shows the place, and no event but by the sample memory itself moves it. Assumes nothing.
-use Rattle.std.specs.Prelude.{ℕ, ◌+◌, ◌≡◌, Bool, List, ltb, if◌then◌else◌}
+use Rattle.std.specs.Prelude.{ℕ, ◌+◌, ◌≡◌, Bool, List, ltb, if◌then◌else◌, Result, Ok, Err, Option}
 use Rattle.std.proofs.Math.Path.{refl}
 use Rattle.std.proofs.Math.Bool.{true, false}
 use Rattle.base.specs.Fields.{bit}
 use Rattle.fifo.specs.Queue.{pushed_to}
 use Rattle.fifo.specs.Flags.{flag_bits}
 use Rattle.fifo.specs.declared.Fifo.{Fifo}
-use Rattle.fifo.specs.declared.OldestSample.{OldestSample}
 use Rattle.timer.specs.Bus as timer
-use Rattle.timer.specs.declared.accesses.Written.{Written}
-use Rattle.timer.specs.declared.accesses.Written.TheVariants.{Accepted, Refused}
+use Rattle.base.specs.declared.Refusal.{Refusal}
+use Rattle.timer.specs.declared.Timer.{Timer}
 use Rattle.machine_record.specs.Parts.{with_fifo}
 use Rattle.machine_record.specs.declared.Board.{Board}
 use Rattle.machine_clock.specs.Clock.{gates, timer_moved, timer_moved_by, counting_written}
@@ -32,10 +31,10 @@ abbrev pub placed : Board → ℕ → Board
 placed b p = with_fifo b (record { held = b.fifo.held; place = p; ovf = b.fifo.ovf })
 
 module _ (b : Board) (p : ℕ) where
-  timer-placed : (r : Written) → timer_moved_by (placed b p) r ≡ placed (timer_moved_by b r) p
+  timer-placed : (r : Result Timer Refusal) → timer_moved_by (placed b p) r ≡ placed (timer_moved_by b r) p
   unfolding timer_moved
-  timer-placed (Accepted t) = refl
-  timer-placed (Refused n) = refl
+  timer-placed (Ok t) = refl
+  timer-placed (Err r) = refl
 
   misc_placed : (v : ℕ) → misc_written (placed b p) v ≡ placed (misc_written b v) p
   unfolding misc_written board_reset requests_cleared page_set
@@ -52,7 +51,7 @@ module _ (b : Board) (p : ℕ) where
     pub written : (v : ℕ) → written_at (placed b p) q v ≡ placed (written_at b q v) p
     pub checks : (v : ℕ) → write_checks (placed b p) q v ≡ write_checks b q v
     pub read : after_read (placed b p) q ≡ placed (after_read b q) p
-    pub shown : (o : OldestSample) → byte_at (placed b p) o q ≡ byte_at b o q
+    pub shown : (o : Option ℕ) → byte_at (placed b p) o q ≡ byte_at b o q
 
   pub row-placed : (q : Place) → RowPlaced q
   unfolding written_at write_checks after_read byte_at register_at counting_written flag_bits
@@ -96,7 +95,7 @@ module _ (b : Board) (p : ℕ) where
       by false = refl
 
   -- ---- any event
-  pub acted-placed : (o : OldestSample) (e : List ℕ) (ev : Event)
+  pub acted-placed : (o : Option ℕ) (e : List ℕ) (ev : Event)
       → acted (placed b p) o e ev ≡ record { board = placed (acted b o e ev).board p; answer = (acted b o e ev).answer; effect = (acted b o e ev).effect }
   unfolding acted din_moved din0_clocked din3_triggered din_set latch_set port_set dividers_ticked counter0_ticked counter1_ticked outputs_ticked ticked
       timer_moved

@@ -1,13 +1,12 @@
 -- What an event leaves of DACBUSY's count and of the dividers, place by place and event by event: laws for the theorems over stretches of events.
-use Rattle.std.specs.Prelude.{ℕ, zero, suc, ◌-◌, ◌≡◌, true, false, List, eqb}
+use Rattle.std.specs.Prelude.{ℕ, zero, suc, ◌-◌, ◌≡◌, true, false, List, eqb, Result, Ok, Err, Option}
 use Rattle.std.proofs.Math.Path.{refl}
 use Rattle.std.proofs.Common.{sym, ◌∙◌, arith}
 use Rattle.base.specs.Fields.{bit}
 use Rattle.base.specs.Laws.{by_choice, under_and, never}
 use Rattle.timer.specs.Bus.{count_written, control_word_written}
-use Rattle.timer.specs.declared.accesses.Written.{Written}
-use Rattle.timer.specs.declared.accesses.Written.TheVariants.{Accepted, Refused}
-use Rattle.fifo.specs.declared.OldestSample.{OldestSample}
+use Rattle.base.specs.declared.Refusal.{Refusal}
+use Rattle.timer.specs.declared.Timer.{Timer}
 use Rattle.machine_clock.specs.Clock.{gates, timer_moved, timer_moved_by, counting_written}
 use Rattle.machine_tick.specs.Tick.{next_tick, dividers_ticked, counter0_ticked, counter1_ticked, outputs_ticked, ticked}
 use Rattle.machine_pins.specs.Pins.{din_moved, din0_clocked, din3_triggered, din_set, latch_set, port_set}
@@ -32,10 +31,10 @@ pub record Free (b c : Board) : Type 0 where
   pub hundred : c.clocks.hundred ≡ b.clocks.hundred
   pub thousand : c.clocks.thousand ≡ b.clocks.thousand
 
-written-free : (b : Board) (w : Written) → Free b (timer_moved_by b w)
+written-free : (b : Board) (w : Result Timer Refusal) → Free b (timer_moved_by b w)
 unfolding timer_moved
-written-free b (Accepted t) = record { hundred = refl; thousand = refl }
-written-free b (Refused n) = record { hundred = refl; thousand = refl }
+written-free b (Ok t) = record { hundred = refl; thousand = refl }
+written-free b (Err r) = record { hundred = refl; thousand = refl }
 
 misc_free : (b : Board) (v : ℕ) → Free b (misc_written b v)
 unfolding misc_written board_reset requests_cleared page_set
@@ -78,7 +77,7 @@ pub record Moves (b c : Board) (t : ℕ) : Type 0 where
   pub hundred : c.clocks.hundred ≡ moved_on t b.clocks.hundred 99
   pub thousand : c.clocks.thousand ≡ moved_on t b.clocks.thousand 999
 
-pub dividers_move : (b : Board) (o : OldestSample) (e : List ℕ) (ev : Event) → Moves b (acted b o e ev).board (ticks_of ev)
+pub dividers_move : (b : Board) (o : Option ℕ) (e : List ℕ) (ev : Event) → Moves b (acted b o e ev).board (ticks_of ev)
 unfolding acted din_set din3_triggered din0_clocked din_moved timer_moved latch_set port_set ticked outputs_ticked counter1_ticked counter0_ticked
     dividers_ticked
 dividers_move b o e (WriteByte n v) = let f = write-free b (place_of b.registers.page n) v in record { hundred = f.hundred; thousand = f.thousand }
@@ -96,10 +95,10 @@ module _ (b : Board) (n v : ℕ) where
   abbrev Stays : Place → Type 0
   Stays p = (written_at b p v).outputs.busy ≡ b.outputs.busy
 
-  written-stays : (w : Written) → (timer_moved_by b w).outputs.busy ≡ b.outputs.busy
+  written-stays : (w : Result Timer Refusal) → (timer_moved_by b w).outputs.busy ≡ b.outputs.busy
   unfolding timer_moved
-  written-stays (Accepted t) = refl
-  written-stays (Refused k) = refl
+  written-stays (Ok t) = refl
+  written-stays (Err r) = refl
 
   misc_stays : is_reset v ≡ false → (misc_written b v).outputs.busy ≡ b.outputs.busy
   unfolding misc_written requests_cleared page_set
@@ -146,7 +145,7 @@ less_none : {x y : ℕ} → x ≡ y → x ≡ y - 0
 less_none {x} {y} h = omega arith
 
 -- a tick takes one off it, and no other event changes it
-pub busy-moves : (b : Board) (o : OldestSample) (e : List ℕ) (ev : Event) → resets ev ≡ false → is_load ev ≡ false
+pub busy-moves : (b : Board) (o : Option ℕ) (e : List ℕ) (ev : Event) → resets ev ≡ false → is_load ev ≡ false
     → (acted b o e ev).board.outputs.busy ≡ b.outputs.busy - ticks_of ev
 unfolding acted resets din_set din3_triggered din0_clocked din_moved timer_moved latch_set port_set ticked outputs_ticked counter1_ticked counter0_ticked
     dividers_ticked

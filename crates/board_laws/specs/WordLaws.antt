@@ -1,5 +1,5 @@
 -- Reads of 0, of 1 and of a word: laws for the theorem about word reads.
-use Rattle.std.specs.Prelude.{ℕ, ◌+◌, ◌*◌, ◌/◌, ◌%◌, ◌≡◌, Bool, not, get_or, if◌then◌else◌}
+use Rattle.std.specs.Prelude.{ℕ, ◌+◌, ◌*◌, ◌/◌, ◌%◌, ◌≡◌, Bool, not, get_or, if◌then◌else◌, Option, Some, None}
 use Rattle.std.proofs.Math.Path.{refl, sym}
 use Rattle.std.proofs.Common.{ap, ◌∙◌, arith}
 use Rattle.std.proofs.Math.Bool.{true, false}
@@ -13,8 +13,6 @@ use Rattle.fifo.specs.Samples.{oldest_of, low_byte_of, high_byte_of}
 use Rattle.fifo.specs.Queue.{queue}
 use Rattle.fifo.specs.Queue.Laws.{layout-queue}
 use Rattle.fifo.specs.Queue.Steps.{pop_none, oldest-none, oldest-some, none_found}
-use Rattle.fifo.specs.declared.OldestSample.{OldestSample}
-use Rattle.fifo.specs.declared.OldestSample.TheVariants.{NoneHeld, Sample}
 use Rattle.machine_record.specs.declared.Board.{Board}
 use Rattle.bus.specs.Place.{place_of}
 use Rattle.bus.specs.Registers.{read_checks, byte_at, after_read, read_effect}
@@ -65,7 +63,7 @@ module _ (s : State) where
       by false h = rw (high-number, h)
 
   -- ---- their values
-  abbrev pub oldest : OldestSample
+  abbrev pub oldest : Option ℕ
   oldest = oldest_of (queue s.board.fifo s.memory)
 
   abbrev pub whole : Bool
@@ -104,7 +102,7 @@ module _ (s : State) where
       → (answer_at s (ReadWord 0) ≡ Nothing) × (value_read (answer_at s (ReadByte 0)) ≡ 255) × (value_read (answer_at s (ReadByte 1)) ≡ 255)
   none_read w h =
       let n : whole ≡ true = taken w in
-      let o : oldest ≡ NoneHeld = sym (oldest-none s.board.fifo s.memory h) in
+      let o : oldest ≡ None = sym (oldest-none s.board.fifo s.memory h) in
       (word-answered w ∙ ap word_read_answer o, low_of ∙ rw (n, o), high_of ∙ rw (n, o))
 
   -- ---- with some held: the word is both bytes
@@ -113,7 +111,7 @@ module _ (s : State) where
   some_read w h =
       let v = get_or s.memory s.board.fifo.place 0 in
       let n : whole ≡ true = taken w in
-      let o : oldest ≡ Sample v = sym (oldest-some s.board.fifo s.memory w.working.fifo h) in
+      let o : oldest ≡ Some v = sym (oldest-some s.board.fifo s.memory w.working.fifo h) in
       let l : value_read (answer_at s (ReadByte 0)) ≡ v % 256 = low_of ∙ rw (n, o) in
       let k : value_read (answer_at s (ReadByte 1)) ≡ v / 256 = high_of ∙ rw (n, o) in
       let j : v ≡ value_read (answer_at s (ReadByte 0)) + 256 * value_read (answer_at s (ReadByte 1)) = omega arith in
@@ -128,7 +126,7 @@ answers_nothing Nothing = true
 answers_nothing (Refused number) = false
 
 -- by an event that is not refused: a word read of 0 alone
-acted-nothing : (b : Board) (o : OldestSample) (e : List ℕ) (ev : Event) → refusal (event_checks b ev) ≡ 0 → (acted b o e ev).answer ≡ Nothing → ev ≡ ReadWord 0
+acted-nothing : (b : Board) (o : Option ℕ) (e : List ℕ) (ev : Event) → refusal (event_checks b ev) ≡ 0 → (acted b o e ev).answer ≡ Nothing → ev ≡ ReadWord 0
 unfolding acted event_checks
 acted-nothing b o e (WriteByte n v) r h = never (ap answers_nothing h)
 acted-nothing b o e (ReadByte n) r h = never (ap answers_nothing h)
@@ -143,7 +141,7 @@ acted-nothing b o e TransferEnd r h = never (ap answers_nothing h)
 module _ (s : State) where
   -- a working board holds none
   pub none-held : Works s → answer_at s (ReadWord 0) ≡ Nothing → s.board.fifo.held ≡ 0
-  none-held w h = none_found s.board.fifo s.memory w.working.fifo (says-which NoneHeld (oldest s) (sym h ∙ word-answered s w))
+  none-held w h = none_found s.board.fifo s.memory w.working.fifo (says-which None (oldest s) (sym h ∙ word-answered s w))
 
   module _ (ev : Event) where
     pub by-word_read : answer_at s ev ≡ Nothing → ev ≡ ReadWord 0
@@ -163,8 +161,8 @@ module _ (s : State) where
         ap (λ (v : Event). after_event s v) e ∙ high-takes s ∙ none-leaves s w (none-held w k)
 
 -- ---- the word that a guest is shown is both bytes
-pub bytes-joined : (t : Bool) (o : OldestSample)
+pub bytes-joined : (t : Bool) (o : Option ℕ)
     → (if t then value_read (word_read_answer o) else 0) ≡ (if t then low_byte_of o else 0) + 256 * (if t then high_byte_of o else 0)
-bytes-joined true NoneHeld = refl
-bytes-joined true (Sample v) = omega arith
+bytes-joined true None = refl
+bytes-joined true (Some v) = omega arith
 bytes-joined false o = refl

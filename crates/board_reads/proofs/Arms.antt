@@ -5,6 +5,7 @@ use mathlib.Core.List.{List}
 use Prim.Native.Nat.{ℕ}
 use borrow.Author.Tests.{eq-eqb, ne_eqb}
 use lib.Dec.{eqb}
+use Rattle.std.specs.Prelude.{Option, Some, None}
 use Rattle.base.specs.Checks.{refusal}
 use Rattle.bus.specs.Place.{place_of}
 use Rattle.bus.specs.Effects.{Keep, Take}
@@ -14,8 +15,6 @@ use Rattle.fifo.specs.Queue.{queue, Leaves, popped_from}
 use Rattle.fifo.specs.Queue.Steps.{pop_none, none_found}
 use Rattle.fifo.specs.Samples.{oldest_of, popped}
 use Rattle.fifo.specs.declared.Fifo.{Fifo}
-use Rattle.fifo.specs.declared.OldestSample.{OldestSample}
-use Rattle.fifo.specs.declared.OldestSample.TheVariants.{NoneHeld, Sample}
 use Rattle.machine_record.specs.Parts.{with_fifo}
 use Rattle.machine_record.specs.declared.Board.{Board}
 use Rattle.board_refusal.specs.Refusals.{event_checks}
@@ -60,7 +59,7 @@ module _ (b : Board) (m e : List ℕ) (n : ℕ) where
   word-outside o h = refused b m e (ReadWord n) o (rw (ne_eqb n 0 h)) refl
 
   -- a sample, which leaves
-  pub word : {x : OldestSample} {v : ℕ} {f : Fifo} {m' : List ℕ} → Opened b m e → n ≡ 0 → x ≡ oldest_of (queue b.fifo m) → x ≡ Sample v
+  pub word : {x : Option ℕ} {v : ℕ} {f : Fifo} {m' : List ℕ} → Opened b m e → n ≡ 0 → x ≡ oldest_of (queue b.fifo m) → x ≡ Some v
       → Leaves (popped_from b.fifo) (popped (queue b.fifo m)) f m'
       → Promised b m e (ReadWord n) (record { board = with_fifo b f; answer = Word v }) m' e
   unfolding event_checks ran acted eeprom_acted
@@ -69,7 +68,7 @@ module _ (b : Board) (m e : List ℕ) (n : ℕ) where
       (record { outcome = rw (l.fifo, sym x ∙ k); memory = l.laid; eeprom = refl })
 
   -- nothing, and then nothing changes
-  pub word-nothing : {x : OldestSample} → Opened b m e → n ≡ 0 → x ≡ oldest_of (queue b.fifo m) → x ≡ NoneHeld
+  pub word-nothing : {x : Option ℕ} → Opened b m e → n ≡ 0 → x ≡ oldest_of (queue b.fifo m) → x ≡ None
       → Promised b m e (ReadWord n) (record { board = b; answer = Nothing }) m e
   unfolding event_checks ran acted eeprom_acted
   word-nothing o h x k =

@@ -9,7 +9,6 @@ ghost use Rattle.board_events.specs.declared.Event.TheVariants.{ReadByte, ReadWo
 use board_events::Answer;
 use board_step::Outcome;
 use bus::Place;
-use fifo::OldestSample;
 use machine::Board;
 
 // The guest reads a byte at an offset.
@@ -91,10 +90,9 @@ pub fn read_word(board: Board, memory: &mut [u16], eeprom: &mut [u8], offset: u3
         Answer::Refused(3)
     } else {
         match fifo::oldest(c.fifo, memory) {
-            OldestSample::NoneHeld => Answer::Nothing,
-            OldestSample::Sample(sample) => {
-                let f = fifo::pop(c.fifo, memory);
-                c.fifo = f;
+            None => Answer::Nothing,
+            Some(sample) => {
+                c.fifo = fifo::pop(c.fifo, memory);
                 Answer::Word(sample)
             }
         }

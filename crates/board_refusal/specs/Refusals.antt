@@ -24,6 +24,13 @@ event_checks b (PortPins q v) = []
 event_checks b Tick = []
 event_checks b TransferEnd = nothing_runs b.calibration refuses 10 ∷ []
 
+-- what every event is refused by before these
+abbrev pub first_checks : Board → List ℕ → List ℕ → List Check
+first_checks b memory eeprom =
+    wrong_lengths memory eeprom refuses 2
+    ∷ not (is_working_board b memory) refuses 1
+    ∷ []
+
 -- of any record and memories
 unfoldable pub checks : Board → List ℕ → List ℕ → Event → List Check
 checks b memory eeprom event =

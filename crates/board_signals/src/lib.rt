@@ -2,15 +2,12 @@
 // and then does what the event does (specs/Act.antt of board_step). `c` is the record as it becomes.
 #![tactic(auto)]
 
-ghost use Rattle.std.specs.Prelude.{◌≡◌, if◌then◌else◌};
-ghost use Rattle.counter_one.specs.Counter.{pulsed};
-ghost use Rattle.counter_one.specs.Working.{WorkingCounter};
+ghost use Rattle.std.specs.Prelude.{◌≡◌};
 ghost use Rattle.board_step.specs.Step.{step_of, memory_after, eeprom_after};
 ghost use Rattle.board_events.specs.declared.Event.TheVariants.{ConversionEnd, DinPins, LatchLevel, PortPins, Tick, TransferEnd};
 
 use board_events::Answer;
 use board_step::Outcome;
-use counter::Counter;
 use machine::Board;
 use ports::Port;
 
@@ -105,18 +102,6 @@ pub fn port_pins(
     Outcome { board: c, answer }
 }
 
-// A counter after a CLK pulse, where its clock has one.
-fn pulse_if(k: Counter, gate: bool, clocks: bool) -> Counter
-    requires { WorkingCounter k }
-    ensures { result ≡ (if clocks then pulsed k gate else k) }
-{
-    if clocks {
-        counter::pulse_working(k, gate)
-    } else {
-        k
-    }
-}
-
 // One tick of the 10 MHz clock: the dividers; DACBUSY; counter 0; counter 1, and counter 2 where OUT1 falls.
 pub fn tick(board: Board, memory: &mut [u16], eeprom: &mut [u8]) -> Outcome
     ensures value { result ≡ step_of board memory.old eeprom.old Tick }
@@ -137,7 +122,7 @@ pub fn tick(board: Board, memory: &mut [u16], eeprom: &mut [u8]) -> Outcome
         let g = machine::gates_at(c.registers.counting, c.pins.din);
         let was0 = c.clocks.timer.counter0.count.out == 1;
         let clocks0 = machine::clocks_0(c.registers.counting, thousand);
-        let k0 = pulse_if(c.clocks.timer.counter0, g.gate0, clocks0);
+        let k0 = machine::pulse_if(c.clocks.timer.counter0, g.gate0, clocks0);
         let mut t0 = c.clocks.timer;
         t0.counter0 = k0;
         c.clocks = machine::put_timer(c.clocks, t0);

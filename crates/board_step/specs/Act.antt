@@ -1,9 +1,8 @@
 -- What an event that is not refused makes of the record, what it answers, and what it does to the samples held. The specification, "What is
 -- delivered": an event is a byte write, byte read, word read, conversion end with a signed code, DIN pins, Latch level, port pins, one 10 MHz
 -- tick, or a calibration transfer end; "Registers"; "Conversions, edges and requests".
-use Rattle.std.specs.Prelude.{ℕ, ◌%◌, List}
+use Rattle.std.specs.Prelude.{ℕ, ◌%◌, List, Option}
 use Rattle.base.specs.Flags.{nonzero}
-use Rattle.fifo.specs.declared.OldestSample.{OldestSample}
 use Rattle.converter.specs.Codes.{sample_of}
 use Rattle.calibration_end.specs.Ends as transfers
 use Rattle.machine_record.specs.Parts.{with_calibration}
@@ -24,7 +23,7 @@ transfer_ended b eeprom = with_calibration b (transfers.calibration_ended b.cali
 abbrev pub din_levels : Din → ℕ
 din_levels d = d.lines % 16
 
-unfoldable pub acted : Board → OldestSample → List ℕ → Event → Acted
+unfoldable pub acted : Board → Option ℕ → List ℕ → Event → Acted
 acted b oldest eeprom (WriteByte offset value) = write_acted b (place_of b.registers.page offset) value
 acted b oldest eeprom (ReadByte offset) = read_acted b oldest (place_of b.registers.page offset)
 acted b oldest eeprom (ReadWord offset) = word_acted b oldest

@@ -1,14 +1,12 @@
 -- The sample memory after an event: what an effect leaves is a working board's, and holds the samples that the definition says; which reads leave it;
 -- that a word read changes nothing else; and that it tells every sample from none.
-use Rattle.std.specs.Prelude.{◌≡◌, Bool, true, false, List, ℕ, eqb, if◌then◌else◌}
+use Rattle.std.specs.Prelude.{◌≡◌, Bool, true, false, List, ℕ, eqb, if◌then◌else◌, Option, Some, None}
 use Rattle.std.proofs.Math.Path.{refl}
 use Rattle.std.proofs.Common.{sym, ap, subst, ◌∙◌}
 use Rattle.fifo.specs.Queue.{queue, layout, WorkingFifo}
 use Rattle.fifo.specs.Queue.Laws.{queue-clear, clear-works}
 use Rattle.fifo.proofs.Queue.Laws.{queue_push, push_works, queue_pop, pop_works}
 use Rattle.fifo.specs.declared.Fifo.{Fifo}
-use Rattle.fifo.specs.declared.OldestSample.{OldestSample}
-use Rattle.fifo.specs.declared.OldestSample.TheVariants.{NoneHeld, Sample}
 use Rattle.machine_record.specs.Parts.{with_fifo}
 use Rattle.machine_record.specs.declared.Board.{Board}
 use Rattle.bus.specs.Place.{place_of}
@@ -66,16 +64,16 @@ module _ (b : Board) where
       (refused_by b (refusal_of b memory eeprom event)) refl refl
 
 -- ---- the word read says which it was: what is answered alike is the same
-pub says-which : (o p : OldestSample) → word_read_answer o ≡ word_read_answer p → o ≡ p
+pub says-which : (o p : Option ℕ) → word_read_answer o ≡ word_read_answer p → o ≡ p
 says-which o p h = sym (found-again o) ∙ ap found h ∙ found-again p
   where
-    found : Answer → OldestSample
-    found Done = NoneHeld
-    found (Byte value) = NoneHeld
-    found (Word value) = Sample value
-    found Nothing = NoneHeld
-    found (Refused number) = NoneHeld
+    found : Answer → Option ℕ
+    found Done = None
+    found (Byte value) = None
+    found (Word value) = Some value
+    found Nothing = None
+    found (Refused number) = None
 
-    found-again : (q : OldestSample) → found (word_read_answer q) ≡ q
-    found-again NoneHeld = refl
-    found-again (Sample sample) = refl
+    found-again : (q : Option ℕ) → found (word_read_answer q) ≡ q
+    found-again None = refl
+    found-again (Some sample) = refl

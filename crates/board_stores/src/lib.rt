@@ -1,21 +1,10 @@
 // The two lent memories when they are fresh: specs/Stores.antt.
 #![tactic(auto)]
 
-ghost use Rattle.std.specs.Prelude.{◌≡◌, length, replicate};
+ghost use Rattle.std.specs.Prelude.{◌≡◌};
 ghost use Rattle.board_stores.specs.Stores.{fresh_memory, fresh_eeprom, stores_answer};
 
 use board_events::Answer;
-
-// Every byte becomes 0.
-fn zero(eeprom: &mut [u8])
-    ensures { eeprom.new ≡ replicate (length eeprom.old) 0 }
-{
-    let mut i: usize = 0;
-    while i < eeprom.len() {
-        eeprom[i] = 0;
-        i += 1;
-    }
-}
 
 // Fresh stores: both memories are zeroed. Wrong lengths are refused by 2, and nothing changes.
 pub fn fresh_stores(memory: &mut [u16], eeprom: &mut [u8]) -> Answer
@@ -27,6 +16,6 @@ pub fn fresh_stores(memory: &mut [u16], eeprom: &mut [u8]) -> Answer
         return Answer::Refused(2);
     }
     fifo::clear(memory);
-    zero(eeprom);
+    eeprom.fill(0);
     Answer::Done
 }

@@ -5,6 +5,7 @@ use mathlib.Core.List.{List, []}
 use Prim.Native.Nat.{ℕ, ◌/◌, ◌%◌}
 use borrow.Author.Tests.{ne_eqb}
 use lib.Dec.{eqb}
+use Rattle.std.specs.Prelude.{Result, Ok, Err}
 use Rattle.base.specs.Checks.{refusal}
 use Rattle.base.specs.Fields.{bit}
 use Rattle.bus.specs.Place.{place_of}
@@ -25,8 +26,8 @@ use Rattle.timer.specs.Timer.{gates_move}
 use Rattle.timer.specs.Still.{gates-still}
 use Rattle.timer.specs.Working.{WorkingTimer}
 use Rattle.timer.specs.declared.Gates.{Gates}
-use Rattle.timer.specs.declared.accesses.Written.{Written}
-use Rattle.timer.specs.declared.accesses.Written.TheVariants as written_as
+use Rattle.base.specs.declared.Refusal.{Refusal}
+use Rattle.timer.specs.declared.Timer.{Timer}
 use Rattle.machine_record.specs.Parts.{with_fifo, with_converter, with_requests, with_registers, with_calibration}
 use Rattle.machine_record.specs.declared.Board.{Board}
 use Rattle.machine_clock.specs.Clock.{gates, gates_at, with_counting, counting_written, timer_moved, timer_moved_by}
@@ -65,12 +66,12 @@ module _ (b : Board) (m e : List ℕ) (n v : ℕ) {p k : Place} (o : Opened b m 
       (record { outcome = rw (place, empty, ← a, l.fifo); memory = rw (place, empty) l.laid; eeprom = refl })
 
 -- ---- a timer that moves leaves the sample memory's record
-timer-moved_fifo : (b : Board) (w : Written) → (timer_moved_by b w).fifo ≡ b.fifo
+timer-moved_fifo : (b : Board) (w : Result Timer Refusal) → (timer_moved_by b w).fifo ≡ b.fifo
 unfolding timer_moved
-timer-moved_fifo b (written_as.Accepted t) = refl
-timer-moved_fifo b (written_as.Refused n) = refl
+timer-moved_fifo b (Ok t) = refl
+timer-moved_fifo b (Err r) = refl
 
-pub timer-moved_kept : (b : Board) (w : Written) {d : Board} → d ≡ timer_moved_by b w → d.fifo ≡ b.fifo
+pub timer-moved_kept : (b : Board) (w : Result Timer Refusal) {d : Board} → d ≡ timer_moved_by b w → d.fifo ≡ b.fifo
 timer-moved_kept b w h = ap (λ (z : Board). z.fifo) h ∙ timer-moved_fifo b w
 
 -- ---- 7, its two parts

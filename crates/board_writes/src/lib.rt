@@ -165,15 +165,13 @@ pub fn write_byte(
                     Answer::Done
                 }
             }
-            Place::CalBase14 => {
-                let number = calibration::control_refusal(c.calibration, value);
-                if number != 0 {
-                    Answer::Refused(number)
-                } else {
+            Place::CalBase14 => match calibration::control_refusal(c.calibration, value) {
+                Some(refusal) => Answer::Refused(refusal.number),
+                None => {
                     c.calibration = calibration::write_control(c.calibration, value);
                     Answer::Done
                 }
-            }
+            },
             Place::CalBase15 => {
                 c.calibration = calibration::write_key(c.calibration, value);
                 Answer::Done

@@ -2,10 +2,9 @@
 -- does, what a read there shows and does, and by which number either is refused: 3 offset above 15; 6 write to 4 or 5 while DACBUSY, or on page 3
 -- to 12-14 while a transfer runs; 9 more than one of EE_EN, RUNCAL, TDACEN; 8 EEPROM command without key; 7 setting not modelled: any access to
 -- page 2 offset 15, the listed 8254 and 8255 cases. The order is 3, 6, 9, 8, 7. The words of the rows are those of Rows.
-use Rattle.std.specs.Prelude.{ℕ, List, [], ◌∷◌}
+use Rattle.std.specs.Prelude.{ℕ, List, [], ◌∷◌, Option}
 use Rattle.base.specs.Checks.{Check, ◌refuses◌}
 use Rattle.fifo.specs.Samples.{low_byte_of, high_byte_of}
-use Rattle.fifo.specs.declared.OldestSample.{OldestSample}
 use Rattle.converter.specs.Channels.{software_triggered}
 use Rattle.converter.specs.Registers.{written_low, written_high}
 use Rattle.requests.specs.Registers.{written_depth, FIFORST, request_bits}
@@ -145,7 +144,7 @@ unfoldable pub read_checks : Place → List Check
 unfolding register_at
 read_checks p = (register_at p).read.checks
 
-unfoldable pub byte_at : Board → OldestSample → Place → ℕ
+unfoldable pub byte_at : Board → Option ℕ → Place → ℕ
 unfolding register_at
 byte_at b oldest p = (register_at p).read.shows b oldest
 

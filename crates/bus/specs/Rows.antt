@@ -1,14 +1,13 @@
 -- What a register is, and the words in which the rows of Registers are written. A word `to..` is given what the byte makes of that part of the board;
 -- the other parts stay.
-use Rattle.std.specs.Prelude.{ℕ, Bool, true, List, [], ◌∷◌, if◌then◌else◌}
+use Rattle.std.specs.Prelude.{ℕ, Bool, true, List, [], ◌∷◌, if◌then◌else◌, Result, Option}
 use Rattle.base.specs.Checks.{Check, ◌refuses◌}
-use Rattle.fifo.specs.declared.OldestSample.{OldestSample}
 use Rattle.converter.specs.declared.channels.Converter.{Converter}
 use Rattle.requests.specs.declared.Requests.{Requests}
 use Rattle.outputs.specs.declared.Outputs.{Outputs}
 use Rattle.timer.specs.declared.Timer.{Timer}
 use Rattle.timer.specs.declared.Gates.{Gates}
-use Rattle.timer.specs.declared.accesses.Written.{Written}
+use Rattle.base.specs.declared.Refusal.{Refusal}
 use Rattle.ports.specs.declared.Ports.{Ports}
 use Rattle.calibration_registers.specs.declared.Calibration.{Calibration}
 use Rattle.machine_record.specs.Parts.{with_converter, with_requests, with_registers, with_outputs, with_ports, with_calibration}
@@ -27,7 +26,7 @@ pub record RegisterWrite : Type 0 where
 -- and what becomes of the samples
 pub record RegisterRead : Type 0 where
   pub checks : List Check
-  pub shows : Board → OldestSample → ℕ
+  pub shows : Board → Option ℕ → ℕ
   pub makes : Board → Board
   pub effect : Effect
 
@@ -57,7 +56,7 @@ abbrev pub to_outputs : (Outputs → ℕ → Outputs) → RegisterWrite
 to_outputs f = storing (λ b v. with_outputs b (f b.outputs v))
 
 -- a timer that moves may set TINT or begin a conversion
-abbrev pub to_timer : (Timer → ℕ → Gates → Written) → RegisterWrite
+abbrev pub to_timer : (Timer → ℕ → Gates → Result Timer Refusal) → RegisterWrite
 to_timer f = storing (λ b v. timer_moved_by b (f b.clocks.timer v (gates b)))
 
 abbrev pub to_ports : (Ports → ℕ → Ports) → RegisterWrite
@@ -90,11 +89,11 @@ abbrev pub showing : (Board → ℕ) → RegisterRead
 showing f = record { checks = []; shows = λ b oldest. f b; makes = λ b. b; effect = Keep }
 
 -- it shows this byte of the oldest sample, which stays
-abbrev pub showing_oldest : (OldestSample → ℕ) → RegisterRead
+abbrev pub showing_oldest : (Option ℕ → ℕ) → RegisterRead
 showing_oldest f = record { checks = []; shows = λ b oldest. f oldest; makes = λ b. b; effect = Keep }
 
 -- which leaves
-abbrev pub taking_oldest : (OldestSample → ℕ) → RegisterRead
+abbrev pub taking_oldest : (Option ℕ → ℕ) → RegisterRead
 taking_oldest f = record { checks = []; shows = λ b oldest. f oldest; makes = λ b. b; effect = Take }
 
 -- and it makes this of the board

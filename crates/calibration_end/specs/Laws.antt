@@ -1,20 +1,20 @@
 -- Laws of the end of a transfer: it keeps a working calibration working, the lengths, and what each does.
-use Rattle.std.specs.Prelude.{◌≡◌, refl, List, ℕ, ◌%◌, length, get_or, set, take}
+use Rattle.std.specs.Prelude.{◌≡◌, refl, List, ℕ, ◌%◌, length, get_or, set, take, Option, Some, None}
 use Rattle.std.proofs.Common.{arith, length-set, length-take}
 use Rattle.calibration_transfers.specs.declared.Transfer.{Transfer}
-use Rattle.calibration_transfers.specs.declared.Transfer.TheVariants.{NoTransfer, EepromRead, EepromWrite, RunCal, TrimDac}
+use Rattle.calibration_transfers.specs.declared.Transfer.TheVariants.{EepromRead, EepromWrite, RunCal, TrimDac}
 use Rattle.calibration_registers.specs.declared.Calibration.{Calibration}
 use Rattle.calibration_transfers.specs.Transfers.{transfer_of}
 use Rattle.calibration_end.specs.Ends.{ended_by, eeprom_ended_by, calibration_ended, eeprom_ended}
 use Rattle.calibration_registers.specs.Registers.{command_written}
 use Rattle.calibration_registers.specs.Working.{WorkingCalibration}
 
-pub ended-by_works : (t : Transfer) (c : Calibration) (eeprom : List ℕ) → WorkingCalibration c → WorkingCalibration (ended_by t c eeprom)
-ended-by_works NoTransfer c eeprom w = w
-ended-by_works EepromRead c eeprom w = omega arith
-ended-by_works EepromWrite c eeprom w = omega arith
-ended-by_works RunCal c eeprom w = omega arith
-ended-by_works TrimDac c eeprom w = omega arith
+pub ended-by_works : (t : Option Transfer) (c : Calibration) (eeprom : List ℕ) → WorkingCalibration c → WorkingCalibration (ended_by t c eeprom)
+ended-by_works None c eeprom w = w
+ended-by_works (Some EepromRead) c eeprom w = omega arith
+ended-by_works (Some EepromWrite) c eeprom w = omega arith
+ended-by_works (Some RunCal) c eeprom w = omega arith
+ended-by_works (Some TrimDac) c eeprom w = omega arith
 
 pub ended-works : (c : Calibration) (eeprom : List ℕ) → WorkingCalibration c → WorkingCalibration (calibration_ended c eeprom)
 unfolding calibration_ended
@@ -25,23 +25,23 @@ pub eeprom_length : (c : Calibration) (eeprom : List ℕ) → length (eeprom_end
 unfolding eeprom_ended
 eeprom_length c eeprom = go (transfer_of c.transfer)
   where
-    go : (t : Transfer) → length (eeprom_ended_by t c eeprom) ≡ length eeprom
-    go NoTransfer = refl
-    go EepromRead = refl
-    go EepromWrite = simp length-set
-    go RunCal = refl
-    go TrimDac = refl
+    go : (t : Option Transfer) → length (eeprom_ended_by t c eeprom) ≡ length eeprom
+    go None = refl
+    go (Some EepromRead) = refl
+    go (Some EepromWrite) = simp length-set
+    go (Some RunCal) = refl
+    go (Some TrimDac) = refl
 
 pub trim_length : (c : Calibration) (eeprom : List ℕ) → length c.trim ≡ 8 → length eeprom ≡ 128 → length (calibration_ended c eeprom).trim ≡ 8
 unfolding calibration_ended
 trim_length c eeprom h k = go (transfer_of c.transfer)
   where
-    go : (t : Transfer) → length (ended_by t c eeprom).trim ≡ 8
-    go NoTransfer = h
-    go EepromRead = h
-    go EepromWrite = h
-    go RunCal = simp length-take (omega arith)
-    go TrimDac = simp length-set h
+    go : (t : Option Transfer) → length (ended_by t c eeprom).trim ≡ 8
+    go None = h
+    go (Some EepromRead) = h
+    go (Some EepromWrite) = h
+    go (Some RunCal) = simp length-take (omega arith)
+    go (Some TrimDac) = simp length-set h
 
 -- ---- from a command to its end
 -- an EEPROM write: the byte goes to the address

@@ -8,26 +8,26 @@ ghost use Rattle.calibration_end.specs.Ends.{stopped, ended_by, eeprom_ended_by,
 
 use calibration_registers::Calibration;
 use calibration_transfers::Transfer;
+use std::array;
 
 // No transfer runs any more; register 12 and the TrimDAC are as given.
 fn stop(c: Calibration, value: u8, trim: [u8; 8]) -> Calibration
     ensures { result ≡ stopped c value trim }
 {
-    let mut d = c;
-    d.value = value;
-    d.transfer = 0;
-    d.trim = trim;
-    d
+    Calibration {
+        value,
+        transfer: 0,
+        trim,
+        ..c
+    }
 }
 
 // The TrimDAC's value at the address's three low bits is register 12.
-fn trimmed(trim: [u8; 8], address: u8, value: u8) -> [u8; 8]
+fn trimmed(mut trim: [u8; 8], address: u8, value: u8) -> [u8; 8]
     ensures { result ≡ set trim (address % 8) value }
 {
-    let i = (address % 8) as usize;
-    let mut t = trim;
-    t[i] = value;
-    t
+    trim[(address % 8) as usize] = value;
+    trim
 }
 
 // The first eight bytes of the EEPROM.
@@ -35,41 +35,30 @@ fn first_eight(eeprom: &[u8]) -> [u8; 8]
     requires { length eeprom.now ≡ 128 }
     ensures { result ≡ take 8 eeprom.now }
 {
-    [
-        eeprom[0], eeprom[1], eeprom[2], eeprom[3], eeprom[4], eeprom[5], eeprom[6], eeprom[7],
-    ]
+    array::from_fn(|i| eeprom[i])
 }
 
 // The calibration after a transfer's end.
-fn end_by(t: Transfer, c: Calibration, eeprom: &[u8]) -> Calibration
+fn end_by(t: Option<Transfer>, c: Calibration, eeprom: &[u8]) -> Calibration
     requires { (length eeprom.now ≡ 128) × WorkingCalibration c }
     ensures { result ≡ ended_by t c eeprom.now }
 {
-    let trim = c.trim;
-    let address = c.address as usize;
     match t {
-        Transfer::NoTransfer => c,
-        Transfer::EepromRead => stop(c, eeprom[address], trim),
-        Transfer::EepromWrite => stop(c, c.value, trim),
-        Transfer::RunCal => stop(c, c.value, first_eight(eeprom)),
-        Transfer::TrimDac => stop(c, c.value, trimmed(trim, c.address, c.value)),
+        None => c,
+        Some(Transfer::EepromRead) => stop(c, eeprom[c.address as usize], c.trim),
+        Some(Transfer::EepromWrite) => stop(c, c.value, c.trim),
+        Some(Transfer::RunCal) => stop(c, c.value, first_eight(eeprom)),
+        Some(Transfer::TrimDac) => stop(c, c.value, trimmed(c.trim, c.address, c.value)),
     }
 }
 
 // The EEPROM after a transfer's end.
-fn store_by(t: Transfer, c: Calibration, eeprom: &mut [u8])
+fn store_by(t: Option<Transfer>, c: Calibration, eeprom: &mut [u8])
     requires { (length eeprom.old ≡ 128) × WorkingCalibration c }
     ensures { eeprom.new ≡ eeprom_ended_by t c eeprom.old }
 {
-    let address = c.address as usize;
-    match t {
-        Transfer::NoTransfer => {}
-        Transfer::EepromRead => {}
-        Transfer::EepromWrite => {
-            eeprom[address] = c.value;
-        }
-        Transfer::RunCal => {}
-        Transfer::TrimDac => {}
+    if let Some(Transfer::EepromWrite) = t {
+        eeprom[c.address as usize] = c.value;
     }
 }
 

@@ -2,11 +2,13 @@
 // Each function's contract is a definition of specs/Registers.antt.
 #![tactic(auto)]
 
-ghost use Rattle.std.specs.Prelude.{◌≡◌};
+ghost use Rattle.std.specs.Prelude.{◌≡◌, ◌≢◌, IfNone, IfSome};
 ghost use Rattle.calibration_registers.specs.Registers.{calbusy, several, locked, control_refusal, nothing_runs, eeprom_command, transfer_commanded};
 ghost use Rattle.calibration_registers.specs.Registers.{data_written, address_written, command_written, key_written, key_forgotten};
 ghost use Rattle.calibration_registers.specs.Registers.{data_read, address_read, status_read, revision, reset_calibration, fresh_calibration};
 ghost use Rattle.calibration_registers.specs.Working.{is_working_calibration};
+
+use base::Refusal;
 
 // Registers 12 and 13, the transfer that runs as a number, the key, CMUXEN, and the TrimDAC.
 #[repr(C)]
@@ -46,18 +48,19 @@ pub fn is_locked(c: Calibration, v: u8) -> bool
     (v / 128 % 2 == 1) & (c.key != 1)
 }
 
-// The number by which a write of 14 is refused, or 0.
-pub fn control_refusal(c: Calibration, v: u8) -> u8
-    ensures { result ≡ control_refusal c v }
+// The refusal of a write of 14, where it is refused.
+pub fn control_refusal(c: Calibration, v: u8) -> Option<Refusal>
+    ensures taken { IfNone result (control_refusal c v ≡ 0) }
+    ensures refused { IfSome result (λ r. (r.number ≡ control_refusal c v) × (r.number ≢ 0)) }
 {
     if is_busy(c) {
-        6
+        Some(Refusal { number: 6 })
     } else if is_several(v) {
-        9
+        Some(Refusal { number: 9 })
     } else if is_locked(c, v) {
-        8
+        Some(Refusal { number: 8 })
     } else {
-        0
+        None
     }
 }
 
@@ -74,18 +77,17 @@ pub fn is_idle(c: Calibration) -> bool
 pub fn write_value(c: Calibration, v: u8) -> Calibration
     ensures { result ≡ data_written c v }
 {
-    let mut d = c;
-    d.value = v;
-    d
+    Calibration { value: v, ..c }
 }
 
 // A write of 13: the address register, A6-A0.
 pub fn write_address(c: Calibration, v: u8) -> Calibration
     ensures { result ≡ address_written c v }
 {
-    let mut d = c;
-    d.address = v % 128;
-    d
+    Calibration {
+        address: v % 128,
+        ..c
+    }
 }
 
 // The EEPROM command of a byte for 14: EE_RW set is a read.
@@ -114,28 +116,28 @@ fn command_of(v: u8) -> u8
 pub fn write_control(c: Calibration, v: u8) -> Calibration
     ensures { result ≡ command_written c v }
 {
-    let mut d = c;
-    d.transfer = command_of(v);
-    d.cmuxen = v / 16 % 2;
-    d
+    Calibration {
+        transfer: command_of(v),
+        cmuxen: v / 16 % 2,
+        ..c
+    }
 }
 
 // A write of 15: A5 is the key, and another byte forgets it.
 pub fn write_key(c: Calibration, v: u8) -> Calibration
     ensures { result ≡ key_written c v }
 {
-    let mut d = c;
-    d.key = (v == 0xA5) as u8;
-    d
+    Calibration {
+        key: (v == 0xA5) as u8,
+        ..c
+    }
 }
 
 // The key is forgotten, as by a write of the page.
 pub fn forget_key(c: Calibration) -> Calibration
     ensures { result ≡ key_forgotten c }
 {
-    let mut d = c;
-    d.key = 0;
-    d
+    Calibration { key: 0, ..c }
 }
 
 // ---- reads of 12 to 15
@@ -181,28 +183,20 @@ pub fn reset(c: Calibration) -> Calibration
     ensures { result ≡ reset_calibration c }
 {
     let trim = c.trim;
-    Calibration {
-        value: 0,
-        address: 0,
-        transfer: 0,
-        key: 0,
-        cmuxen: 0,
-        trim: trim,
-    }
+    Calibration { trim, ..fresh() }
 }
 
 // A fresh board's calibration.
 pub fn fresh() -> Calibration
     ensures { result ≡ fresh_calibration }
 {
-    let trim = [0u8, 0, 0, 0, 0, 0, 0, 0];
     Calibration {
         value: 0,
         address: 0,
         transfer: 0,
         key: 0,
         cmuxen: 0,
-        trim: trim,
+        trim: [0; 8],
     }
 }
 

@@ -8,61 +8,45 @@ ghost use Rattle.calibration_transfers.specs.Transfers.{transfer_of, runs, eepro
 // What a command of register 14 starts.
 #[derive(Clone, Copy)]
 pub enum Transfer {
-    NoTransfer,
     EepromRead,
     EepromWrite,
     RunCal,
     TrimDac,
 }
 
-// The transfer that a number stands for.
-pub fn transfer_of(n: u8) -> Transfer
+// The transfer that a number stands for, where it stands for one.
+pub fn transfer_of(n: u8) -> Option<Transfer>
     ensures { result ≡ transfer_of n }
 {
     match n {
-        1 => Transfer::EepromRead,
-        2 => Transfer::EepromWrite,
-        3 => Transfer::RunCal,
-        4 => Transfer::TrimDac,
-        _ => Transfer::NoTransfer,
+        1 => Some(Transfer::EepromRead),
+        2 => Some(Transfer::EepromWrite),
+        3 => Some(Transfer::RunCal),
+        4 => Some(Transfer::TrimDac),
+        _ => None,
     }
 }
 
 // Whether a transfer runs.
-pub fn does_run(t: Transfer) -> bool
+pub fn does_run(t: Option<Transfer>) -> bool
     ensures { result ≡ runs t }
 {
-    match t {
-        Transfer::NoTransfer => false,
-        Transfer::EepromRead => true,
-        Transfer::EepromWrite => true,
-        Transfer::RunCal => true,
-        Transfer::TrimDac => true,
-    }
+    t.is_some()
 }
 
 // Whether EEBUSY reads 1 meanwhile.
-pub fn uses_eeprom(t: Transfer) -> bool
+pub fn uses_eeprom(t: Option<Transfer>) -> bool
     ensures { result ≡ eeprom_busy t }
 {
-    match t {
-        Transfer::NoTransfer => false,
-        Transfer::EepromRead => true,
-        Transfer::EepromWrite => true,
-        Transfer::RunCal => true,
-        Transfer::TrimDac => false,
-    }
+    matches!(
+        t,
+        Some(Transfer::EepromRead | Transfer::EepromWrite | Transfer::RunCal)
+    )
 }
 
 // Whether TDBUSY reads 1 meanwhile.
-pub fn uses_trimdac(t: Transfer) -> bool
+pub fn uses_trimdac(t: Option<Transfer>) -> bool
     ensures { result ≡ trim_dac_busy t }
 {
-    match t {
-        Transfer::NoTransfer => false,
-        Transfer::EepromRead => false,
-        Transfer::EepromWrite => false,
-        Transfer::RunCal => false,
-        Transfer::TrimDac => true,
-    }
+    matches!(t, Some(Transfer::TrimDac))
 }

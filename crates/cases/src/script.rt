@@ -1,21 +1,27 @@
 // The line language of the programs that run named cases: a name, a colon, then operations. An operation is a lower-case letter and
 // hex digits (capitals); it is complete at the first byte that is no digit.
-ghost use Rattle.std.specs.Prelude.{◌≡◌};
-ghost use Rattle.cases.specs.Script.{fresh_script, digit_value, is_digit, named, opened, operated, stepped};
+ghost use Rattle.std.specs.Prelude.{◌≡◌, Some, None, if◌then◌else◌};
+ghost use Rattle.cases.specs.Script.{fresh_script, is_digit, digit_value, longer, named, opened, operated, stepped};
 
+// An operation, as far as it has been read.
 #[derive(Clone, Copy)]
-pub struct Script {
-    pub naming: bool,
+pub struct Operation {
     pub letter: u8,
     pub value: u32,
 }
 
-// What a byte brings: an operation that is now complete (letter 0: none), whether the byte is to be shown, whether a line ended.
+// Where the text stands: in a name or behind one, and the operation that has begun.
+#[derive(Clone, Copy)]
+pub struct Script {
+    pub naming: bool,
+    pub operation: Option<Operation>,
+}
+
+// What a byte brings: an operation that is now complete, whether the byte is to be shown, whether a line ended.
 #[derive(Clone, Copy)]
 pub struct Step {
     pub script: Script,
-    pub letter: u8,
-    pub value: u32,
+    pub operation: Option<Operation>,
     pub shown: bool,
     pub ended: bool,
 }
@@ -26,80 +32,82 @@ pub fn begin() -> Script
 {
     Script {
         naming: true,
-        letter: 0,
-        value: 0,
+        operation: None,
     }
 }
 
-fn is_digit(byte: u8) -> bool
-    ensures { result ≡ is_digit byte }
+// The value of a hex digit; no other byte has one.
+fn digit_of(byte: u8) -> Option<u32>
+    ensures { result ≡ (if is_digit byte then Some (digit_value byte) else None) }
 {
-    (48 <= byte) & (byte <= 57) | (65 <= byte) & (byte <= 70)
+    match byte {
+        b'0'..=b'9' => Some((byte - b'0') as u32),
+        b'A'..=b'F' => Some((byte - b'A') as u32 + 10),
+        _ => None,
+    }
 }
 
-fn digit_value(byte: u8) -> u32
-    ensures { result ≡ digit_value byte }
+// One digit more; of the value the last eight are kept.
+fn longer(o: Operation, digit: u32) -> Operation
+    ensures { result ≡ longer o digit }
 {
-    if byte <= 57 {
-        (byte % 16) as u32
-    } else {
-        (byte % 16) as u32 + 9
+    Operation {
+        value: o.value % 268435456 * 16 + digit % 16,
+        ..o
     }
 }
 
 fn name(s: Script, byte: u8) -> Step
     ensures { result ≡ named s byte }
 {
-    let mut next = s;
-    next.naming = byte != 58;
     Step {
-        script: next,
-        letter: 0,
-        value: 0,
+        script: Script {
+            naming: byte != b':',
+            ..s
+        },
+        operation: None,
         shown: true,
-        ended: byte == 10,
+        ended: byte == b'\n',
     }
 }
 
 fn open(byte: u8) -> Script
     ensures { result ≡ opened byte }
 {
-    if (97 <= byte) & (byte <= 122) {
-        Script {
+    match byte {
+        b'a'..=b'z' => Script {
             naming: false,
-            letter: byte,
-            value: 0,
-        }
-    } else {
-        Script {
-            naming: byte == 10,
-            letter: 0,
-            value: 0,
-        }
+            operation: Some(Operation {
+                letter: byte,
+                value: 0,
+            }),
+        },
+        _ => Script {
+            naming: byte == b'\n',
+            operation: None,
+        },
     }
 }
 
 fn operate(s: Script, byte: u8) -> Step
     ensures { result ≡ operated s byte }
 {
-    let mut next = s;
-    if is_digit(byte) {
-        next.value = s.value % 268435456 * 16 + digit_value(byte) % 16;
-        Step {
-            script: next,
-            letter: 0,
-            value: 0,
+    match digit_of(byte) {
+        Some(digit) => Step {
+            script: Script {
+                operation: s.operation.map(|o| longer(o, digit)),
+                ..s
+            },
+            operation: None,
             shown: false,
             ended: false,
-        }
-    } else {
-        Step {
+        },
+        None => Step {
             script: open(byte),
-            letter: s.letter,
-            value: s.value,
-            shown: byte == 10,
-            ended: byte == 10,
-        }
+            operation: s.operation,
+            shown: byte == b'\n',
+            ended: byte == b'\n',
+        },
     }
 }
 

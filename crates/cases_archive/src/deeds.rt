@@ -1,56 +1,46 @@
 // What a line does, as single deeds: each of its rounds has a number of places, and each place one deed.
-use super::lines;
 use super::lines::WorldLine;
 use board::{Din, Event, Jumpers};
 use collector::Settings;
 
-// An event of the board comes with the offset at which its answer is viewed, 0 where it is not.
+// View is a read at an offset whose answer is shown.
 #[derive(Clone, Copy)]
 pub enum Deed {
-    Happen(Event, u8),
+    Happen(Event),
+    View(u32),
     Turn,
     Start(Settings),
     Renew(Jumpers, bool),
     End,
-    Nothing,
 }
 
 // The places of a round: B is three events, S those and turns, I ticks, an event and turns, V two reads.
-pub fn places(line: WorldLine) -> u32 {
-    let first = lines::word_of(line, 1) as u32;
-    let second = lines::word_of(line, 2) as u32;
-    let letter = line.letter;
-    match letter {
-        b'B' => 3,
-        b'S' => 3 + first,
-        b'I' => first + 1 + second,
-        b'V' => 2,
+pub fn places(line: &WorldLine) -> u32 {
+    let first = u32::from(line.word_at(1));
+    let second = u32::from(line.word_at(2));
+    match line.letter {
+        Some(b'B') => 3,
+        Some(b'S') => 3 + first,
+        Some(b'I') => first + 1 + second,
+        Some(b'V') => 2,
         _ => 1,
     }
 }
 
-// An event whose answer is not looked at.
-fn happen(event: Event) -> Deed {
-    Deed::Happen(event, 0)
-}
-
 fn din(lines: u32) -> Deed {
-    happen(Event::DinPins(Din { lines }))
+    Deed::Happen(Event::DinPins(Din { lines }))
 }
 
 // A conversion end whose code is so many above the one in a field of the line.
-fn end(line: WorldLine, field: usize, above: u32) -> Deed {
-    let above = (above % 65536) as u16;
-    happen(Event::ConversionEnd {
-        code: converter::codes::code(std::num::wrapping_add_u16(
-            lines::bits_of(line, field),
-            above,
-        )),
+fn end(line: &WorldLine, field: usize, above: u32) -> Deed {
+    let bits = line.bits(field).wrapping_add((above % 65536) as u16);
+    Deed::Happen(Event::ConversionEnd {
+        code: converter::codes::code(bits),
     })
 }
 
 // B: DIN 7, a conversion end, DIN 15. What comes after them is a turn.
-fn beat(line: WorldLine, field: usize, round: u32, place: u32) -> Deed {
+fn beat(line: &WorldLine, field: usize, round: u32, place: u32) -> Deed {
     match place {
         0 => din(7),
         1 => end(line, field, round),
@@ -60,10 +50,10 @@ fn beat(line: WorldLine, field: usize, round: u32, place: u32) -> Deed {
 }
 
 // I: ticks, a conversion end, turns.
-fn interval(line: WorldLine, round: u32, place: u32) -> Deed {
-    let ticks = lines::word_of(line, 1) as u32;
+fn interval(line: &WorldLine, round: u32, place: u32) -> Deed {
+    let ticks = u32::from(line.word_at(1));
     if place < ticks {
-        happen(Event::Tick)
+        Deed::Happen(Event::Tick)
     } else if place == ticks {
         end(line, 3, round)
     } else {
@@ -71,77 +61,47 @@ fn interval(line: WorldLine, round: u32, place: u32) -> Deed {
     }
 }
 
-fn access(line: WorldLine) -> Deed {
-    let offset = lines::number(line, 1);
-    let letter = line.letter;
-    match letter {
-        b'W' => happen(Event::WriteByte {
-            offset,
-            value: lines::byte_of(line, 2),
-        }),
-        b'R' => happen(Event::ReadByte { offset }),
-        _ => happen(Event::ReadWord { offset: 0 }),
-    }
+fn write(line: &WorldLine) -> Deed {
+    Deed::Happen(Event::WriteByte {
+        offset: line.number(1),
+        value: line.byte(2),
+    })
 }
 
-fn pins(line: WorldLine) -> Deed {
-    let first = lines::number(line, 1);
-    let letter = line.letter;
-    match letter {
-        b'D' => din(first),
-        b'L' => happen(Event::LatchLevel { level: first }),
-        _ => happen(Event::PortPins(cases::port_of(first), lines::byte_of(line, 2))),
-    }
-}
-
-fn settings(line: WorldLine) -> Settings {
+fn settings(line: &WorldLine) -> Settings {
     Settings {
-        low: lines::byte_of(line, 1),
-        high: lines::byte_of(line, 2),
-        jumpers: lines::byte_of(line, 3),
-        range: lines::byte_of(line, 4),
-        clock: lines::word_of(line, 5),
-        limit: lines::word_of(line, 6),
+        low: line.byte(1),
+        high: line.byte(2),
+        jumpers: line.byte(3),
+        range: line.byte(4),
+        clock: line.word_at(5),
+        limit: line.word_at(6),
     }
 }
 
-// V: reads at 8 and at 7.
-fn view(place: u32) -> Deed {
-    if place == 0 {
-        Deed::Happen(Event::ReadByte { offset: 8 }, 8)
-    } else {
-        Deed::Happen(Event::ReadByte { offset: 7 }, 7)
-    }
-}
-
-// What is no event of the board: fresh, start, end, a turn.
-fn host(line: WorldLine) -> Deed {
-    let letter = line.letter;
-    match letter {
-        b'f' => Deed::Renew(
-            cases::jumpers_of(lines::number(line, 1)),
-            lines::number(line, 2) == 1,
-        ),
-        b's' => Deed::Start(settings(line)),
-        b'e' => Deed::End,
-        b't' => Deed::Turn,
-        _ => Deed::Nothing,
-    }
-}
-
-// The deed at a place of a round.
-pub fn deed_at(line: WorldLine, round: u32, place: u32) -> Deed {
-    let letter = line.letter;
-    match letter {
-        b'W' | b'R' | b'X' => access(line),
-        b'D' | b'L' | b'P' => pins(line),
+// The deed at a place of a round; another word does nothing.
+pub fn deed_at(line: &WorldLine, round: u32, place: u32) -> Option<Deed> {
+    let first = line.number(1);
+    let deed = match line.letter? {
+        b'W' => write(line),
+        b'R' => Deed::Happen(Event::ReadByte { offset: first }),
+        b'X' => Deed::Happen(Event::ReadWord { offset: 0 }),
+        b'D' => din(first),
+        b'L' => Deed::Happen(Event::LatchLevel { level: first }),
+        b'P' => Deed::Happen(Event::PortPins(cases::port_of(first), line.byte(2))),
         b'C' => end(line, 1, 0),
-        b'T' => happen(Event::Tick),
-        b'E' => happen(Event::TransferEnd),
+        b'T' => Deed::Happen(Event::Tick),
+        b'E' => Deed::Happen(Event::TransferEnd),
         b'B' => beat(line, 1, round, place),
         b'S' => beat(line, 2, round, place),
         b'I' => interval(line, round, place),
-        b'V' => view(place),
-        _ => host(line),
-    }
+        b'V' if place == 0 => Deed::View(8),
+        b'V' => Deed::View(7),
+        b'f' => Deed::Renew(cases::jumpers_of(first), line.number(2) == 1),
+        b's' => Deed::Start(settings(line)),
+        b'e' => Deed::End,
+        b't' => Deed::Turn,
+        _ => return None,
+    };
+    Some(deed)
 }

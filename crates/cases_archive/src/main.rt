@@ -6,180 +6,107 @@ mod deeds;
 mod lines;
 mod tallies;
 
-use board::{Board, Event, Jumpers};
+use board::{Answer, Board, Event, Jumpers};
 use deeds::Deed;
 use lines::WorldLine;
 use std::io;
-use std::io::Read;
-use tallies::{Driver, Tally};
+use tallies::{Tally, Viewed};
 
-// A board and the collector's side of it.
-#[derive(Clone, Copy)]
-pub struct ArchiveBench {
-    pub board: Board,
-    pub tally: Tally,
-}
-
-// What is fed byte by byte: the line so far, and the bench.
-#[derive(Clone, Copy)]
-pub struct ArchiveFeed {
-    pub line: WorldLine,
-    pub bench: ArchiveBench,
-}
-
-// A fresh board with fresh stores, and no collector.
-fn renew(
-    memory: &mut [u16],
-    eeprom: &mut [u8],
-    jumpers: Jumpers,
-    zero_scale: bool,
-) -> ArchiveBench {
-    board::fresh_stores(memory, eeprom);
-    ArchiveBench {
-        board: board::fresh(jumpers, zero_scale),
-        tally: tallies::empty(),
-    }
-}
-
-// An event of the board. A refusal is counted, or the answer shown where it is viewed.
-fn happen(
-    rt: &impl Print,
-    b: ArchiveBench,
-    memory: &mut [u16],
-    eeprom: &mut [u8],
-    event: Event,
-    viewed: u8,
-) -> io::Result<ArchiveBench> {
-    let before = b.tally;
-    let outcome = board::step(b.board, memory, eeprom, event);
-    let answer = outcome.answer;
-    let board = outcome.board;
-    let tally = tallies::take_answer(rt, before, answer, viewed)?;
-    Ok(ArchiveBench { board, tally })
-}
-
-// A turn of the collector on the board, where there is a collector.
-fn drive(
-    rt: &impl Print,
-    b: ArchiveBench,
-    memory: &mut [u16],
-    eeprom: &mut [u8],
-) -> io::Result<ArchiveBench> {
-    let before = b.tally;
-    let driver = before.driver;
-    let Driver::Driving(c) = driver else {
-        return Ok(b);
-    };
-    let turned = archive_turns::turn(c, b.board, memory, eeprom);
-    let handed = turned.handed;
-    let after = turned.collector;
-    let board = turned.board;
-    let tally = tallies::take_turn(rt, before, after, handed, turned.polls)?;
-    Ok(ArchiveBench { board, tally })
-}
-
-// What concerns the collector alone.
-fn host(rt: &impl Print, b: ArchiveBench, deed: Deed) -> io::Result<ArchiveBench> {
-    let board = b.board;
-    let before = b.tally;
-    let tally = tallies::host(rt, before, deed)?;
-    Ok(ArchiveBench { board, tally })
-}
-
-fn do_deed(
-    rt: &impl Print,
-    b: ArchiveBench,
-    memory: &mut [u16],
-    eeprom: &mut [u8],
-    deed: Deed,
-) -> io::Result<ArchiveBench> {
-    match deed {
-        Deed::Happen(event, viewed) => happen(rt, b, memory, eeprom, event, viewed),
-        Deed::Turn => drive(rt, b, memory, eeprom),
-        Deed::Renew(jumpers, zero_scale) => Ok(renew(memory, eeprom, jumpers, zero_scale)),
-        _ => host(rt, b, deed),
-    }
-}
-
-// One round of a line.
-fn do_round(
-    rt: &impl Print,
+// The line so far, a board with its stores, and the collector's side of it.
+#[derive(Drop)]
+struct World {
     line: WorldLine,
-    round: u32,
-    b: ArchiveBench,
-    memory: &mut [u16],
-    eeprom: &mut [u8],
-) -> io::Result<ArchiveBench> {
-    let mut b = b;
-    for place in 0..deeds::places(line) {
-        let next = do_deed(rt, b, memory, eeprom, deeds::deed_at(line, round, place))?;
-        b = next;
-    }
-    Ok(b)
+    board: Board,
+    memory: [u16; 512],
+    eeprom: [u8; 128],
+    tally: Tally,
 }
 
-// All rounds of a line; a line that has not ended has none.
-fn do_line(
-    rt: &impl Print,
-    line: WorldLine,
-    b: ArchiveBench,
-    memory: &mut [u16],
-    eeprom: &mut [u8],
-) -> io::Result<ArchiveBench> {
-    let mut b = b;
-    for round in 0..lines::rounds(line) {
-        let next = do_round(rt, line, round, b, memory, eeprom)?;
-        b = next;
+impl World {
+    fn begin() -> World {
+        let mut world = World {
+            line: WorldLine::begin(),
+            board: board::fresh(Jumpers::A, false),
+            memory: [0; 512],
+            eeprom: [0; 128],
+            tally: Tally::empty(),
+        };
+        board::fresh_stores(&mut world.memory, &mut world.eeprom);
+        world
     }
-    Ok(b)
-}
 
-fn feed_all(
-    rt: &impl Print,
-    piece: &[u8],
-    fed: ArchiveFeed,
-    memory: &mut [u16],
-    eeprom: &mut [u8],
-) -> io::Result<ArchiveFeed> {
-    let mut line = fed.line;
-    let mut bench = fed.bench;
-    for i in 0..piece.len() {
-        let read = lines::take_byte(rt, line, piece[i])?;
-        let next = do_line(rt, read, bench, memory, eeprom)?;
-        bench = next;
-        line = lines::go_on(read);
+    // Puts a fresh board with fresh stores, and no collector.
+    fn renew(&mut self, jumpers: Jumpers, zero_scale: bool) {
+        board::fresh_stores(&mut self.memory, &mut self.eeprom);
+        self.board = board::fresh(jumpers, zero_scale);
+        self.tally = Tally::empty();
     }
-    Ok(ArchiveFeed { line, bench })
-}
 
-// A proved loop has to end, and nothing says that the input does: no input has as many pieces as there are reads.
-fn run_all(
-    rt: &(impl Input + Print),
-    buf: &mut [u8],
-    memory: &mut [u16],
-    eeprom: &mut [u8],
-) -> io::Result<()> {
-    let mut input = rt.reader();
-    let mut fed = ArchiveFeed {
-        line: lines::begin(),
-        bench: renew(memory, eeprom, Jumpers::A, false),
-    };
-    let mut reads = u64::MAX;
-    while reads > 0 {
-        let n = input.read(buf)?;
-        if n == 0 {
-            return Ok(());
+    fn happen(&mut self, event: Event) -> Answer {
+        let outcome = board::step(self.board, &mut self.memory, &mut self.eeprom, event);
+        self.board = outcome.board;
+        outcome.answer
+    }
+
+    // A read whose answer is shown. A view is two of them, at 8 and at 7.
+    fn view(&mut self, rt: &impl Print, offset: u32) -> io::Result<()> {
+        let viewed = Viewed(self.happen(Event::ReadByte { offset }));
+        if offset == 8 {
+            print!(rt; "view {viewed}")
+        } else {
+            println!(rt; " {viewed}")
         }
-        let next = feed_all(rt, &buf[..n], fed, memory, eeprom)?;
-        fed = next;
-        reads -= 1;
     }
-    Ok(())
+
+    // A turn of the collector on the board, where there is a collector.
+    fn turn(&mut self, rt: &impl Print) -> io::Result<()> {
+        let Some(collector) = self.tally.collector else {
+            return Ok(());
+        };
+        let turned = archive_turns::turn(collector, self.board, &mut self.memory, &mut self.eeprom);
+        self.board = turned.board;
+        self.tally.take_turn(rt, turned)
+    }
+
+    fn do_deed(&mut self, rt: &impl Print, deed: Deed) -> io::Result<()> {
+        match deed {
+            Deed::Happen(event) => {
+                let answer = self.happen(event);
+                self.tally.take_answer(answer);
+            }
+            Deed::View(offset) => self.view(rt, offset)?,
+            Deed::Turn => self.turn(rt)?,
+            Deed::Renew(jumpers, zero_scale) => self.renew(jumpers, zero_scale),
+            Deed::Start(settings) => self.tally.start(rt, settings)?,
+            Deed::End => println!(rt; "{}", self.tally)?,
+        }
+        Ok(())
+    }
+
+    // All rounds of a line.
+    fn do_line(&mut self, rt: &impl Print, line: WorldLine) -> io::Result<()> {
+        for round in 0..line.rounds() {
+            for place in 0..deeds::places(&line) {
+                if let Some(deed) = deeds::deed_at(&line, round, place) {
+                    self.do_deed(rt, deed)?;
+                }
+            }
+        }
+        Ok(())
+    }
+
+    // The next byte: a line feed ends the line, which then happens.
+    fn take(&mut self, rt: &impl Print, byte: u8) -> io::Result<()> {
+        self.line.take(rt, byte)?;
+        if byte == b'\n' {
+            self.do_line(rt, self.line)?;
+            self.line = WorldLine::begin();
+        }
+        Ok(())
+    }
 }
 
 fn main(rt: HostRuntime) -> io::Result<()> {
-    let mut buf = [0u8; 4096];
-    let mut memory = [0u16; 512];
-    let mut eeprom = [0u8; 128];
-    run_all(&rt, &mut buf, &mut memory, &mut eeprom)
+    let mut world = World::begin();
+    cases::each_byte(&rt, |byte| world.take(&rt, byte))
 }

@@ -1,176 +1,93 @@
 // The collector's side of a world: the collector, if there is one, how many samples it handed over, and how many events the board refused.
-use super::deeds::Deed;
+use archive_turns::Turned;
 use board::Answer;
-use collector::{Collector, Handed, Sample, Settings, Started};
-use std::io;
-
-#[derive(Clone, Copy)]
-pub enum Driver {
-    NoDriver,
-    Driving(Collector),
-}
+use collector::{Collector, Handed, Sample, Settings};
+use std::{fmt, io};
 
 #[derive(Clone, Copy)]
 pub struct Tally {
-    pub driver: Driver,
-    pub samples: u64,
-    pub refused: u64,
+    pub collector: Option<Collector>,
+    samples: u64,
+    refused: u64,
 }
 
-// No collector, and nothing counted.
-pub fn empty() -> Tally {
-    Tally {
-        driver: Driver::NoDriver,
-        samples: 0,
-        refused: 0,
-    }
-}
-
-fn with_driver(t: Tally, c: Collector) -> Tally {
-    Tally {
-        driver: Driver::Driving(c),
-        samples: t.samples,
-        refused: t.refused,
-    }
-}
-
-fn show_refusal(rt: &impl Print, n: u8) -> io::Result<()> {
-    cases::text(rt, b"refused ")?;
-    cases::decimal(rt, n as u64)?;
-    cases::text(rt, b"\n")
-}
-
-// A new collector, or a refusal, which is shown.
-fn start(rt: &impl Print, t: Tally, settings: Settings) -> io::Result<Tally> {
-    match collector::start(settings) {
-        Started::Begun(c) => Ok(with_driver(t, c)),
-        Started::NotBegun(n) => {
-            show_refusal(rt, n)?;
-            Ok(t)
-        }
+// The line at the end of a script.
+impl fmt::Display for Tally {
+    fn fmt<W: fmt::Write>(&self, f: &mut fmt::Formatter<W>) -> fmt::Result {
+        let polls = self.collector.map_or(0, |c| c.polls);
+        write!(
+            f,
+            "polls {polls} samples {} refused {}",
+            self.samples, self.refused
+        )
     }
 }
 
 // An answer in decimal, and - for what is no byte.
-fn show_answer(rt: &impl Print, answer: Answer) -> io::Result<()> {
-    match answer {
-        Answer::Byte(v) => cases::decimal(rt, v as u64),
-        _ => cases::text(rt, b"-"),
-    }
-}
+#[derive(Clone, Copy)]
+pub struct Viewed(pub Answer);
 
-// A view: the answers to reads at 8 and at 7.
-fn show_view(rt: &impl Print, answer: Answer, viewed: u8) -> io::Result<()> {
-    if viewed == 8 {
-        cases::text(rt, b"view ")?;
-        show_answer(rt, answer)
-    } else {
-        cases::text(rt, b" ")?;
-        show_answer(rt, answer)?;
-        cases::text(rt, b"\n")
-    }
-}
-
-fn refusals_in(answer: Answer) -> u64 {
-    match answer {
-        Answer::Refused(_) => 1,
-        _ => 0,
-    }
-}
-
-// After an event: a refusal is counted, or, where the offset that is viewed is not 0, the answer shown.
-pub fn take_answer(rt: &impl Print, t: Tally, answer: Answer, viewed: u8) -> io::Result<Tally> {
-    let mut u = t;
-    if viewed == 0 {
-        u.refused = std::num::wrapping_add_u64(t.refused, refusals_in(answer));
-    } else {
-        show_view(rt, answer, viewed)?;
-    }
-    Ok(u)
-}
-
-fn show_sample(rt: &impl Print, y: Sample) -> io::Result<()> {
-    cases::decimal(rt, y.channel as u64)?;
-    cases::text(rt, b" ")?;
-    cases::code(rt, y.code)
-}
-
-fn show_gap(rt: &impl Print, polls: u16) -> io::Result<()> {
-    cases::text(rt, b" gap ")?;
-    cases::decimal(rt, polls as u64)
-}
-
-// What a turn's refusal shows: 15 is a collector that is stuck.
-fn show_turn_refusal(rt: &impl Print, n: u8) -> io::Result<()> {
-    if n == 15 {
-        cases::text(rt, b"stuck\n")
-    } else {
-        show_refusal(rt, n)
-    }
-}
-
-// Shows what is handed over, and says how many samples it is.
-fn show_handed(rt: &impl Print, handed: Handed, polls: u16) -> io::Result<u64> {
-    match handed {
-        Handed::Nothing => Ok(0),
-        Handed::StartEnd => Ok(0),
-        Handed::OneSample(y) => {
-            show_sample(rt, y)?;
-            cases::text(rt, b"\n")?;
-            Ok(1)
-        }
-        Handed::LastSample(y) => {
-            show_sample(rt, y)?;
-            show_gap(rt, polls)?;
-            cases::text(rt, b"\n")?;
-            Ok(1)
-        }
-        Handed::Refused(n) => {
-            show_turn_refusal(rt, n)?;
-            Ok(0)
+impl fmt::Display for Viewed {
+    fn fmt<W: fmt::Write>(&self, f: &mut fmt::Formatter<W>) -> fmt::Result {
+        match self.0 {
+            Answer::Byte(byte) => write!(f, "{byte}"),
+            _ => f.write_str("-"),
         }
     }
 }
 
-// After a turn: the collector as it left it, and what it handed over, which is shown.
-pub fn take_turn(
-    rt: &impl Print,
-    t: Tally,
-    c: Collector,
-    handed: Handed,
-    polls: u16,
-) -> io::Result<Tally> {
-    let mut u = with_driver(t, c);
-    let more = show_handed(rt, handed, polls)?;
-    u.samples = std::num::wrapping_add_u64(t.samples, more);
-    Ok(u)
-}
+// A sample: its channel and its code.
+#[derive(Clone, Copy)]
+struct Shown(Sample);
 
-fn polls_of(driver: Driver) -> u16 {
-    match driver {
-        Driver::NoDriver => 0,
-        Driver::Driving(c) => c.polls,
+impl fmt::Display for Shown {
+    fn fmt<W: fmt::Write>(&self, f: &mut fmt::Formatter<W>) -> fmt::Result {
+        write!(f, "{} {}", self.0.channel, self.0.code)
     }
 }
 
-// The line at the end of a script.
-fn show(rt: &impl Print, t: Tally) -> io::Result<Tally> {
-    let driver = t.driver;
-    cases::text(rt, b"polls ")?;
-    cases::decimal(rt, polls_of(driver) as u64)?;
-    cases::text(rt, b" samples ")?;
-    cases::decimal(rt, t.samples)?;
-    cases::text(rt, b" refused ")?;
-    cases::decimal(rt, t.refused)?;
-    cases::text(rt, b"\n")?;
-    Ok(t)
-}
+impl Tally {
+    // No collector, and nothing counted.
+    pub fn empty() -> Tally {
+        Tally {
+            collector: None,
+            samples: 0,
+            refused: 0,
+        }
+    }
 
-// A start, or the end of a script; any other deed is none of the collector's.
-pub fn host(rt: &impl Print, t: Tally, deed: Deed) -> io::Result<Tally> {
-    match deed {
-        Deed::Start(settings) => start(rt, t, settings),
-        Deed::End => show(rt, t),
-        _ => Ok(t),
+    // A new collector, or a refusal, which is shown.
+    pub fn start(&mut self, rt: &impl Print, settings: Settings) -> io::Result<()> {
+        match collector::start(settings) {
+            Ok(collector) => self.collector = Some(collector),
+            Err(refusal) => println!(rt; "{refusal}")?,
+        }
+        Ok(())
+    }
+
+    // After an event: a refusal is counted.
+    pub fn take_answer(&mut self, answer: Answer) {
+        if let Answer::Refused(_) = answer {
+            self.refused = self.refused.wrapping_add(1);
+        }
+    }
+
+    // After a turn: the collector as it left it, and what it handed over, which is shown. Refusal 15 is a collector that is stuck.
+    pub fn take_turn(&mut self, rt: &impl Print, turned: Turned) -> io::Result<()> {
+        self.collector = Some(turned.collector);
+        match turned.handed {
+            Handed::Nothing | Handed::StartEnd => {}
+            Handed::OneSample(sample) => {
+                self.samples = self.samples.wrapping_add(1);
+                println!(rt; "{}", Shown(sample))?;
+            }
+            Handed::LastSample(sample) => {
+                self.samples = self.samples.wrapping_add(1);
+                println!(rt; "{} gap {}", Shown(sample), turned.polls)?;
+            }
+            Handed::Refused(15) => println!(rt; "stuck")?,
+            Handed::Refused(number) => println!(rt; "refused {number}")?,
+        }
+        Ok(())
     }
 }

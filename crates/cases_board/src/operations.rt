@@ -4,20 +4,11 @@
 //   conversions, whose codes count on; mOOHH, hOOOOHHHH the host sets a place of EEPROM, of sample memory; zNN spoils the board; y, q show it;
 //   k shows the tally that is kept beside it, o begins one with the board as it stands.
 // Offsets, DIN and Latch levels of more digits are handed on as they stand.
-use super::bench;
 use super::bench::BoardBench;
-use board::{Din, Event};
-use cases_board_host::{spoil, view};
+use board::{Din, Event, Jumpers};
+use cases::{Bench, Operation};
+use cases_board_host::view;
 use std::io;
-
-// What an operation asks for: one event, so many ticks, so many conversions, or a thing that the host does.
-#[derive(Clone, Copy)]
-enum Act {
-    One(Event),
-    ManyTicks(u32),
-    ManyConversions(u32),
-    ByHost,
-}
 
 fn write_of(value: u32) -> Event {
     Event::WriteByte {
@@ -36,159 +27,92 @@ fn port_pins_of(value: u32) -> Event {
     Event::PortPins(cases::port_of(value / 256 % 16), (value % 256) as u8)
 }
 
-// What a letter asks for with a value.
-fn act_of(letter: u8, value: u32) -> Act {
-    match letter {
-        b'w' => Act::One(write_of(value)),
-        b'r' => Act::One(Event::ReadByte { offset: value }),
-        b'x' => Act::One(Event::ReadWord { offset: value }),
-        b'e' => Act::One(end_of((value % 65536) as u16)),
-        b'd' => Act::One(Event::DinPins(Din { lines: value })),
-        b'l' => Act::One(Event::LatchLevel { level: value }),
-        b'p' => Act::One(port_pins_of(value)),
-        b'f' => Act::One(Event::TransferEnd),
-        b't' => Act::ManyTicks(value % 65536),
-        b'n' => Act::ManyConversions(value % 65536),
-        _ => Act::ByHost,
+// The event that an operation is, if it is one.
+fn event_of(operation: Operation) -> Option<Event> {
+    let value = operation.value;
+    match operation.letter {
+        b'w' => Some(write_of(value)),
+        b'r' => Some(Event::ReadByte { offset: value }),
+        b'x' => Some(Event::ReadWord { offset: value }),
+        b'e' => Some(end_of((value % 65536) as u16)),
+        b'd' => Some(Event::DinPins(Din { lines: value })),
+        b'l' => Some(Event::LatchLevel { level: value }),
+        b'p' => Some(port_pins_of(value)),
+        b'f' => Some(Event::TransferEnd),
+        _ => None,
     }
 }
 
-fn ticks(
-    rt: &impl Print,
-    b: BoardBench,
-    memory: &mut [u16],
-    eeprom: &mut [u8],
-    count: u32,
-) -> io::Result<BoardBench> {
-    let mut c = b;
-    let mut left = count;
-    while left > 0 {
-        let d = bench::happen(rt, c, memory, eeprom, Event::Tick)?;
-        c = d;
-        left -= 1;
+impl BoardBench {
+    fn ticks(&mut self, rt: &impl Print, count: u32) -> io::Result<()> {
+        for _ in 0..count {
+            self.happen(rt, Event::Tick)?;
+        }
+        Ok(())
     }
-    Ok(c)
-}
 
-// One software-triggered conversion and its end.
-fn convert(
-    rt: &impl Print,
-    b: BoardBench,
-    memory: &mut [u16],
-    eeprom: &mut [u8],
-) -> io::Result<BoardBench> {
-    let c = bench::happen(rt, b, memory, eeprom, write_of(0))?;
-    let mut d = bench::happen(rt, c, memory, eeprom, end_of(b.code))?;
-    d.code = std::num::wrapping_add_u16(b.code, 1);
-    Ok(d)
-}
-
-fn conversions(
-    rt: &impl Print,
-    b: BoardBench,
-    memory: &mut [u16],
-    eeprom: &mut [u8],
-    count: u32,
-) -> io::Result<BoardBench> {
-    let mut c = b;
-    let mut left = count;
-    while left > 0 {
-        let d = convert(rt, c, memory, eeprom)?;
-        c = d;
-        left -= 1;
+    // Software-triggered conversions, each with its end.
+    fn conversions(&mut self, rt: &impl Print, count: u32) -> io::Result<()> {
+        for _ in 0..count {
+            self.happen(rt, write_of(0))?;
+            self.happen(rt, end_of(self.code))?;
+            self.code = self.code.wrapping_add(1);
+        }
+        Ok(())
     }
-    Ok(c)
-}
 
-fn set_byte(eeprom: &mut [u8], value: u32) {
-    let at = (value / 256 % 256) as usize;
-    if at < eeprom.len() {
-        eeprom[at] = (value % 256) as u8;
-    }
-}
-
-fn set_place(memory: &mut [u16], value: u32) {
-    let at = (value / 65536) as usize;
-    if at < memory.len() {
-        memory[at] = (value % 65536) as u16;
-    }
-}
-
-fn lend(b: BoardBench, places: usize, bytes: usize) -> BoardBench {
-    let mut c = b;
-    c.places = places;
-    c.bytes = bytes;
-    c
-}
-
-// The spoils 00 to 04 are of the stores.
-fn spoil_bench(b: BoardBench, n: u32) -> BoardBench {
-    match n {
-        0x00 => lend(b, 511, b.bytes),
-        0x01 => lend(b, 513, b.bytes),
-        0x02 => lend(b, 0, b.bytes),
-        0x03 => lend(b, b.places, 127),
-        0x04 => lend(b, b.places, 129),
-        _ => {
-            let mut c = b;
-            c.board = spoil::spoil_board(b.board, n);
-            c
+    fn set_byte(&mut self, value: u32) {
+        let at = (value / 256 % 256) as usize;
+        if let Some(byte) = self.eeprom.get_mut(at) {
+            *byte = (value % 256) as u8;
         }
     }
-}
 
-// What leaves the bench: a place of a store is set, or the board or its tally is shown.
-fn set_or_show(
-    rt: &impl Print,
-    b: BoardBench,
-    memory: &mut [u16],
-    eeprom: &mut [u8],
-    letter: u8,
-    value: u32,
-) -> io::Result<()> {
-    match letter {
-        b'm' => set_byte(eeprom, value),
-        b'h' => set_place(memory, value),
-        b'y' => view::show_host(rt, b.board)?,
-        b'q' => view::show_samples(rt, b.board.fifo, memory, b.places)?,
-        b'k' => bench::show_tally(rt, b)?,
-        _ => {}
-    }
-    Ok(())
-}
-
-fn host(
-    rt: &impl Print,
-    b: BoardBench,
-    memory: &mut [u16],
-    eeprom: &mut [u8],
-    letter: u8,
-    value: u32,
-) -> io::Result<BoardBench> {
-    match letter {
-        b'b' => Ok(bench::start(memory, eeprom, value / 16 % 16, value % 16 == 1)),
-        b'z' => Ok(spoil_bench(b, value)),
-        b'o' => Ok(bench::begin_tally(b)),
-        _ => {
-            set_or_show(rt, b, memory, eeprom, letter, value)?;
-            Ok(b)
+    fn set_place(&mut self, value: u32) {
+        let at = (value / 65536) as usize;
+        if let Some(place) = self.memory.get_mut(at) {
+            *place = (value % 65536) as u16;
         }
     }
+
+    fn show_samples(&self, rt: &impl Print) -> io::Result<()> {
+        let samples = view::Samples {
+            fifo: self.board.fifo,
+            memory: &self.memory,
+            places: self.places,
+        };
+        print!(rt; " {samples}")
+    }
+
+    // What is no single event: a row of events, or a thing that the host does.
+    fn host(&mut self, rt: &impl Print, operation: Operation) -> io::Result<()> {
+        let value = operation.value;
+        match operation.letter {
+            b't' => self.ticks(rt, value % 65536)?,
+            b'n' => self.conversions(rt, value % 65536)?,
+            b'b' => self.start(cases::jumpers_of(value / 16 % 16), value % 16 == 1),
+            b'z' => self.spoil(value),
+            b'o' => self.begin_tally(),
+            b'm' => self.set_byte(value),
+            b'h' => self.set_place(value),
+            b'y' => print!(rt; " {}", view::Host(self.board))?,
+            b'q' => self.show_samples(rt)?,
+            b'k' => self.show_tally(rt)?,
+            _ => {}
+        }
+        Ok(())
+    }
 }
 
-// Does the operation of a letter; another letter does nothing.
-pub fn operate_board(
-    rt: &impl Print,
-    b: BoardBench,
-    memory: &mut [u16],
-    eeprom: &mut [u8],
-    letter: u8,
-    value: u32,
-) -> io::Result<BoardBench> {
-    match act_of(letter, value) {
-        Act::One(event) => bench::happen(rt, b, memory, eeprom, event),
-        Act::ManyTicks(count) => ticks(rt, b, memory, eeprom, count),
-        Act::ManyConversions(count) => conversions(rt, b, memory, eeprom, count),
-        Act::ByHost => host(rt, b, memory, eeprom, letter, value),
+impl Bench for BoardBench {
+    fn operate<R: Print>(&mut self, rt: &R, operation: Operation) -> io::Result<()> {
+        match event_of(operation) {
+            Some(event) => self.happen(rt, event),
+            None => self.host(rt, operation),
+        }
+    }
+
+    fn renew(&mut self) {
+        self.start(Jumpers::A, false);
     }
 }

@@ -9,28 +9,24 @@ use calibration::Calibration;
 use converter::channels::Converter;
 use fifo::Fifo;
 use machine::{Board, Clocks, Pins, Registers, Wiring};
-use outputs::Outputs;
+use outputs::{Codes, Load, Outputs};
 use ports::Ports;
 
 fn spoil_fifo(f: Fifo, n: u32) -> Fifo
     ensures { result ≡ spoiled_fifo f n }
 {
-    let mut g = f;
     match n {
-        0x05 => {
-            g.held = 513;
-            g
-        }
-        0x06 => {
-            g.held = 511;
-            g.ovf = 1;
-            g
-        }
-        0x21 => {
-            g.held = 0;
-            g.ovf = 1;
-            g
-        }
+        0x05 => Fifo { held: 513, ..f },
+        0x06 => Fifo {
+            held: 511,
+            ovf: 1,
+            ..f
+        },
+        0x21 => Fifo {
+            held: 0,
+            ovf: 1,
+            ..f
+        },
         _ => f,
     }
 }
@@ -38,25 +34,15 @@ fn spoil_fifo(f: Fifo, n: u32) -> Fifo
 fn spoil_channels(c: Converter, n: u32) -> Converter
     ensures { result ≡ spoiled_converter c n }
 {
-    let mut d = c;
     match n {
-        0x07 => {
-            d.selected = 32;
-            d
-        }
-        0x08 => {
-            d.low = 32;
-            d
-        }
-        0x09 => {
-            d.high = 32;
-            d
-        }
-        0x0A => {
-            d.channel = 32;
-            d.converting = 1;
-            d
-        }
+        0x07 => Converter { selected: 32, ..c },
+        0x08 => Converter { low: 32, ..c },
+        0x09 => Converter { high: 32, ..c },
+        0x0A => Converter {
+            channel: 32,
+            converting: 1,
+            ..c
+        },
         _ => c,
     }
 }
@@ -64,17 +50,13 @@ fn spoil_channels(c: Converter, n: u32) -> Converter
 fn spoil_clocks(k: Clocks, n: u32) -> Clocks
     ensures { result ≡ spoiled_clocks k n }
 {
-    let t = spoil_counters::spoil_timer(k.timer, n);
-    let mut l = machine::put_timer(k, t);
+    let l = machine::put_timer(k, spoil_counters::spoil_timer(k.timer, n));
     match n {
-        0x0C => {
-            l.hundred = 100;
-            l
-        }
-        0x0D => {
-            l.thousand = 1000;
-            l
-        }
+        0x0C => Clocks { hundred: 100, ..l },
+        0x0D => Clocks {
+            thousand: 1000,
+            ..l
+        },
         _ => l,
     }
 }
@@ -82,32 +64,38 @@ fn spoil_clocks(k: Clocks, n: u32) -> Clocks
 fn spoil_outputs(o: Outputs, n: u32) -> Outputs
     ensures { result ≡ spoiled_outputs o n }
 {
-    let mut p = o;
     match n {
-        0x0B => {
-            p.busy = 101;
-            p
-        }
-        0x12 => {
-            p.codes.out0 = 4096;
-            p
-        }
-        0x13 => {
-            p.load.loaded = 1;
-            p.load.channel = 4;
-            p.load.code = 0;
-            p
-        }
-        0x14 => {
-            p.load.loaded = 1;
-            p.load.channel = 0;
-            p.load.code = 4096;
-            p
-        }
-        0x1C => {
-            p.codes.out3 = 4096;
-            p
-        }
+        0x0B => Outputs { busy: 101, ..o },
+        0x12 => Outputs {
+            codes: Codes {
+                out0: 4096,
+                ..o.codes
+            },
+            ..o
+        },
+        0x13 => Outputs {
+            load: Load {
+                loaded: 1,
+                channel: 4,
+                code: 0,
+            },
+            ..o
+        },
+        0x14 => Outputs {
+            load: Load {
+                loaded: 1,
+                channel: 0,
+                code: 4096,
+            },
+            ..o
+        },
+        0x1C => Outputs {
+            codes: Codes {
+                out3: 4096,
+                ..o.codes
+            },
+            ..o
+        },
         _ => o,
     }
 }
@@ -115,24 +103,11 @@ fn spoil_outputs(o: Outputs, n: u32) -> Outputs
 fn spoil_ports(p: Ports, n: u32) -> Ports
     ensures { result ≡ spoiled_ports p n }
 {
-    let mut q = p;
     match n {
-        0x15 => {
-            q.control = 0x1B;
-            q
-        }
-        0x16 => {
-            q.control = 0xDB;
-            q
-        }
-        0x22 => {
-            q.control = 0xBB;
-            q
-        }
-        0x23 => {
-            q.control = 0x9F;
-            q
-        }
+        0x15 => Ports { control: 0x1B, ..p },
+        0x16 => Ports { control: 0xDB, ..p },
+        0x22 => Ports { control: 0xBB, ..p },
+        0x23 => Ports { control: 0x9F, ..p },
         _ => p,
     }
 }
@@ -140,16 +115,9 @@ fn spoil_ports(p: Ports, n: u32) -> Ports
 fn spoil_calibration(c: Calibration, n: u32) -> Calibration
     ensures { result ≡ spoiled_calibration c n }
 {
-    let mut d = c;
     match n {
-        0x17 => {
-            d.transfer = 99;
-            d
-        }
-        0x18 => {
-            d.address = 128;
-            d
-        }
+        0x17 => Calibration { transfer: 99, ..c },
+        0x18 => Calibration { address: 128, ..c },
         _ => c,
     }
 }
@@ -157,16 +125,9 @@ fn spoil_calibration(c: Calibration, n: u32) -> Calibration
 fn spoil_registers(g: Registers, n: u32) -> Registers
     ensures { result ≡ spoiled_registers g n }
 {
-    let mut s = g;
     match n {
-        0x11 => {
-            s.page = 4;
-            s
-        }
-        0x1A => {
-            s.range = 16;
-            s
-        }
+        0x11 => Registers { page: 4, ..g },
+        0x1A => Registers { range: 16, ..g },
         _ => g,
     }
 }
@@ -174,22 +135,14 @@ fn spoil_registers(g: Registers, n: u32) -> Registers
 fn spoil_pins(p: Pins, n: u32) -> Pins
     ensures { result ≡ spoiled_pins p n }
 {
-    let mut q = p;
-    if n == 0x10 {
-        q.din = 16;
-        q
-    } else {
-        p
-    }
+    if n == 0x10 { Pins { din: 16, ..p } } else { p }
 }
 
 fn spoil_wiring(w: Wiring, n: u32) -> Wiring
     ensures { result ≡ spoiled_wiring w n }
 {
-    let mut v = w;
     if n == 0x19 {
-        v.inputs = 4;
-        v
+        Wiring { inputs: 4, ..w }
     } else {
         w
     }
@@ -199,17 +152,18 @@ fn spoil_wiring(w: Wiring, n: u32) -> Wiring
 fn spoil_ranges(b: Board, n: u32) -> Board
     ensures { result ≡ spoiled_ranges b n }
 {
-    let mut c = b;
-    c.fifo = spoil_fifo(b.fifo, n);
-    c.converter = spoil_channels(b.converter, n);
-    c.clocks = spoil_clocks(b.clocks, n);
-    c.outputs = spoil_outputs(b.outputs, n);
-    c.ports = spoil_ports(b.ports, n);
-    c.calibration = spoil_calibration(b.calibration, n);
-    c.registers = spoil_registers(b.registers, n);
-    c.pins = spoil_pins(b.pins, n);
-    c.wiring = spoil_wiring(b.wiring, n);
-    c
+    Board {
+        fifo: spoil_fifo(b.fifo, n),
+        converter: spoil_channels(b.converter, n),
+        clocks: spoil_clocks(b.clocks, n),
+        outputs: spoil_outputs(b.outputs, n),
+        ports: spoil_ports(b.ports, n),
+        calibration: spoil_calibration(b.calibration, n),
+        registers: spoil_registers(b.registers, n),
+        pins: spoil_pins(b.pins, n),
+        wiring: spoil_wiring(b.wiring, n),
+        ..b
+    }
 }
 
 // The numbers from 24 on damage a flag.

@@ -2,34 +2,40 @@
 ghost use Rattle.std.specs.Prelude.{◌≡◌};
 ghost use Rattle.cases_board_host.specs.Spoils.{one_to_load, out_low, mode1, spoiled_counter, spoiled_counter0, spoiled_timer};
 
-use counter::Counter;
+use counter::{Count, Counter};
 use timer::Timer;
 
 // As after a control word 14, but with 1 to load.
 fn one_to_load() -> Counter
     ensures { result ≡ one_to_load }
 {
-    let mut c = counter::write_word(counter::new(), 0x14);
-    c.count.register = 1;
-    c
+    let c = counter::write_word(counter::new(), 0x14);
+    Counter {
+        count: Count {
+            register: 1,
+            ..c.count
+        },
+        ..c
+    }
 }
 
 // As on a fresh board, but with OUT low.
 fn out_low() -> Counter
     ensures { result ≡ out_low }
 {
-    let mut c = counter::new();
-    c.count.out = 0;
-    c
+    let c = counter::new();
+    Counter {
+        count: Count { out: 0, ..c.count },
+        ..c
+    }
 }
 
 // As after a control word 14, but in mode 1.
 fn mode_1() -> Counter
     ensures { result ≡ mode1 }
 {
-    let mut c = counter::write_word(counter::new(), 0x14);
-    c.control = 0x12;
-    c
+    let c = counter::write_word(counter::new(), 0x14);
+    Counter { control: 0x12, ..c }
 }
 
 // `one` is the number for 1 to load, `low` that for OUT low.
@@ -59,9 +65,9 @@ fn spoil_counter_0(c: Counter, n: u32) -> Counter
 pub fn spoil_timer(t: Timer, n: u32) -> Timer
     ensures { result ≡ spoiled_timer t n }
 {
-    let mut u = t;
-    u.counter0 = spoil_counter_0(t.counter0, n);
-    u.counter1 = spoil_counter(t.counter1, n, 0x1D, 0x1F);
-    u.counter2 = spoil_counter(t.counter2, n, 0x1E, 0x20);
-    u
+    Timer {
+        counter0: spoil_counter_0(t.counter0, n),
+        counter1: spoil_counter(t.counter1, n, 0x1D, 0x1F),
+        counter2: spoil_counter(t.counter2, n, 0x1E, 0x20),
+    }
 }

@@ -14,81 +14,84 @@ use outputs::{Load, Outputs};
 use requests::{Flags, Requests};
 use timer::Timer;
 
-// `own` is the flag's own number.
-fn damage_flag(v: u8, n: u32, own: u32) -> u8
-    ensures { result ≡ damaged_flag v n own }
+// `own` is the flag's own number. Most flags stand in 8 bits, some in 16.
+fn damage_flag<T: From<u8> + Drop>(v: T, n: u32, own: u32) -> T
+    ensures damaged { n ≡ own → T.from_gives 2 result }
+    ensures kept { (n ≡ own → ⊥) → result ≡ v }
 {
-    if n == own { 2 } else { v }
-}
-
-// A flag that the record keeps in 16 bits.
-fn damage_wide(v: u16, n: u32, own: u32) -> u16
-    ensures { result ≡ damaged_flag v n own }
-{
-    if n == own { 2 } else { v }
+    if n == own { T::from(2) } else { v }
 }
 
 fn damage_converter(c: Converter, n: u32) -> Converter
     ensures { result ≡ damaged_converter c n }
 {
-    let mut d = c;
-    d.converting = damage_flag(c.converting, n, 0x24);
-    d.scanen = damage_flag(c.scanen, n, 0x25);
-    d.clken = damage_flag(c.clken, n, 0x26);
-    d
+    Converter {
+        converting: damage_flag(c.converting, n, 0x24),
+        scanen: damage_flag(c.scanen, n, 0x25),
+        clken: damage_flag(c.clken, n, 0x26),
+        ..c
+    }
 }
 
 fn damage_asked(f: Flags, n: u32) -> Flags
     ensures { result ≡ damaged_asked f n }
 {
-    let mut g = f;
-    g.adint = damage_flag(f.adint, n, 0x2C);
-    g.dint = damage_flag(f.dint, n, 0x2D);
-    g.tint = damage_flag(f.tint, n, 0x2E);
-    g
+    Flags {
+        adint: damage_flag(f.adint, n, 0x2C),
+        dint: damage_flag(f.dint, n, 0x2D),
+        tint: damage_flag(f.tint, n, 0x2E),
+    }
 }
 
 fn damage_requests(q: Requests, n: u32) -> Requests
     ensures { result ≡ damaged_requests q n }
 {
-    let mut s = q;
-    s.fifoen = damage_flag(q.fifoen, n, 0x27);
-    s.clksel = damage_flag(q.clksel, n, 0x28);
-    s.adinte = damage_flag(q.adinte, n, 0x29);
-    s.dinte = damage_flag(q.dinte, n, 0x2A);
-    s.tinte = damage_flag(q.tinte, n, 0x2B);
-    s.flags = damage_asked(q.flags, n);
-    s
+    Requests {
+        fifoen: damage_flag(q.fifoen, n, 0x27),
+        clksel: damage_flag(q.clksel, n, 0x28),
+        adinte: damage_flag(q.adinte, n, 0x29),
+        dinte: damage_flag(q.dinte, n, 0x2A),
+        tinte: damage_flag(q.tinte, n, 0x2B),
+        flags: damage_asked(q.flags, n),
+        ..q
+    }
 }
 
 fn damage_fifo(f: Fifo, n: u32) -> Fifo
     ensures { result ≡ damaged_fifo f n }
 {
-    let mut g = f;
-    g.ovf = damage_wide(f.ovf, n, 0x2F);
-    if n == 0x4A {
-        g.place = 512;
-    } else if n == 0x4B {
-        g.held = 0;
-        g.place = 5;
+    let ovf = damage_flag(f.ovf, n, 0x2F);
+    match n {
+        0x4A => Fifo {
+            place: 512,
+            ovf,
+            ..f
+        },
+        0x4B => Fifo {
+            held: 0,
+            place: 5,
+            ovf,
+        },
+        _ => Fifo { ovf, ..f },
     }
-    g
 }
 
 fn damage_load(l: Load, n: u32) -> Load
     ensures { result ≡ damaged_load l n }
 {
-    let mut m = l;
-    m.loaded = damage_flag(l.loaded, n, 0x30);
-    m
+    Load {
+        loaded: damage_flag(l.loaded, n, 0x30),
+        ..l
+    }
 }
 
 fn damage_outputs(o: Outputs, n: u32) -> Outputs
     ensures { result ≡ damaged_outputs o n }
 {
-    let mut p = o;
-    p.load = damage_load(o.load, n);
-    p
+    Outputs {
+        load: damage_load(o.load, n),
+        ..o
+    }
 }
 
 // The place of a number among a counter's seven flags, the first of which has the number `first`: 0 to 6, or 7 and more for another number.
@@ -101,86 +104,92 @@ fn place(n: u32, first: u32) -> u32
 fn damage_count(c: Count, at: u32) -> Count
     ensures { result ≡ damaged_count c at }
 {
-    let mut d = c;
-    d.out = damage_flag(c.out, at, 1);
-    d.waiting = damage_flag(c.waiting, at, 2);
-    d.loaded = damage_wide(c.loaded, at, 3);
-    d
+    Count {
+        out: damage_flag(c.out, at, 1),
+        waiting: damage_flag(c.waiting, at, 2),
+        loaded: damage_flag(c.loaded, at, 3),
+        ..c
+    }
 }
 
 fn damage_bus(s: Bus, at: u32) -> Bus
     ensures { result ≡ damaged_bus s at }
 {
-    let mut t = s;
-    t.latched = damage_flag(s.latched, at, 4);
-    t.halfread = damage_flag(s.halfread, at, 5);
-    t.halfwritten = damage_flag(s.halfwritten, at, 6);
-    t
+    Bus {
+        latched: damage_flag(s.latched, at, 4),
+        halfread: damage_flag(s.halfread, at, 5),
+        halfwritten: damage_flag(s.halfwritten, at, 6),
+        ..s
+    }
 }
 
 fn damage_counter(c: Counter, at: u32) -> Counter
     ensures { result ≡ damaged_counter c at }
 {
-    let mut d = c;
-    d.trigger = damage_flag(c.trigger, at, 0);
-    d.count = damage_count(c.count, at);
-    d.bus = damage_bus(c.bus, at);
-    d
+    Counter {
+        trigger: damage_flag(c.trigger, at, 0),
+        count: damage_count(c.count, at),
+        bus: damage_bus(c.bus, at),
+        ..c
+    }
 }
 
 fn damage_timer(t: Timer, n: u32) -> Timer
     ensures { result ≡ damaged_timer t n }
 {
-    let mut u = t;
-    u.counter0 = damage_counter(t.counter0, place(n, 0x31));
-    u.counter1 = damage_counter(t.counter1, place(n, 0x38));
-    u.counter2 = damage_counter(t.counter2, place(n, 0x3F));
-    u
+    Timer {
+        counter0: damage_counter(t.counter0, place(n, 0x31)),
+        counter1: damage_counter(t.counter1, place(n, 0x38)),
+        counter2: damage_counter(t.counter2, place(n, 0x3F)),
+    }
 }
 
 fn damage_clocks(k: Clocks, n: u32) -> Clocks
     ensures { result ≡ damaged_clocks k n }
 {
-    let t = damage_timer(k.timer, n);
-    machine::put_timer(k, t)
+    machine::put_timer(k, damage_timer(k.timer, n))
 }
 
 fn damage_calibration(c: Calibration, n: u32) -> Calibration
     ensures { result ≡ damaged_calibration c n }
 {
-    let mut d = c;
-    d.key = damage_flag(c.key, n, 0x46);
-    d.cmuxen = damage_flag(c.cmuxen, n, 0x47);
-    d
+    Calibration {
+        key: damage_flag(c.key, n, 0x46),
+        cmuxen: damage_flag(c.cmuxen, n, 0x47),
+        ..c
+    }
 }
 
 fn damage_pins(p: Pins, n: u32) -> Pins
     ensures { result ≡ damaged_pins p n }
 {
-    let mut q = p;
-    q.latch = damage_flag(p.latch, n, 0x48);
-    q
+    Pins {
+        latch: damage_flag(p.latch, n, 0x48),
+        ..p
+    }
 }
 
 fn damage_wiring(w: Wiring, n: u32) -> Wiring
     ensures { result ≡ damaged_wiring w n }
 {
-    let mut v = w;
-    v.zeroscale = damage_flag(w.zeroscale, n, 0x49);
-    v
+    Wiring {
+        zeroscale: damage_flag(w.zeroscale, n, 0x49),
+        ..w
+    }
 }
 
 pub fn damage_board(b: Board, n: u32) -> Board
     ensures { result ≡ damaged b n }
 {
-    let mut c = b;
-    c.converter = damage_converter(b.converter, n);
-    c.requests = damage_requests(b.requests, n);
-    c.fifo = damage_fifo(b.fifo, n);
-    c.outputs = damage_outputs(b.outputs, n);
-    c.clocks = damage_clocks(b.clocks, n);
-    c.calibration = damage_calibration(b.calibration, n);
-    c.pins = damage_pins(b.pins, n);
-    c.wiring = damage_wiring(b.wiring, n);
-    c
+    Board {
+        converter: damage_converter(b.converter, n),
+        requests: damage_requests(b.requests, n),
+        fifo: damage_fifo(b.fifo, n),
+        outputs: damage_outputs(b.outputs, n),
+        clocks: damage_clocks(b.clocks, n),
+        calibration: damage_calibration(b.calibration, n),
+        pins: damage_pins(b.pins, n),
+        wiring: damage_wiring(b.wiring, n),
+        ..b
+    }
 }

@@ -3,157 +3,110 @@ use fifo::Fifo;
 use machine::Board;
 use outputs::Outputs;
 use ports::{Port, Ports};
-use std::io;
+use std::fmt;
 
-pub fn show_byte(rt: &impl Print, v: u8) -> io::Result<()> {
-    let shown = [
-        b' ',
-        session_digits::hex_digit(v / 16),
-        session_digits::hex_digit(v),
-    ];
-    rt.write_all(&shown)
-}
+// What a host sees of a board.
+#[derive(Clone, Copy)]
+pub struct Host(pub Board);
 
-pub fn show_word(rt: &impl Print, v: u16) -> io::Result<()> {
-    rt.write_all(b" ")?;
-    show_digits(rt, v)
-}
-
-// Four hex digits.
-pub fn show_digits(rt: &impl Print, v: u16) -> io::Result<()> {
-    let high = (v / 256) as u8;
-    let low = (v % 256) as u8;
-    let shown = [
-        session_digits::hex_digit(high / 16),
-        session_digits::hex_digit(high),
-        session_digits::hex_digit(low / 16),
-        session_digits::hex_digit(low),
-    ];
-    rt.write_all(&shown)
-}
-
-fn show_code(rt: &impl Print, code: u16) -> io::Result<()> {
-    if code >= 4096 {
-        rt.write_all(b"1000")
-    } else {
-        let high = (code / 256 % 256) as u8;
-        let low = (code % 256) as u8;
-        let shown = [
-            session_digits::hex_digit(high),
-            session_digits::hex_digit(low / 16),
-            session_digits::hex_digit(low),
-        ];
-        rt.write_all(&shown)
+impl fmt::Display for Host {
+    fn fmt<W: fmt::Write>(&self, f: &mut fmt::Formatter<W>) -> fmt::Result {
+        let board = self.0;
+        write!(
+            f,
+            "{}/{}",
+            Codes(board.outputs),
+            Dout(machine::dout_pins(board))
+        )?;
+        let port_a = DrivenLines(board.ports, Port::PortA);
+        let port_b = DrivenLines(board.ports, Port::PortB);
+        let port_c = DrivenLines(board.ports, Port::PortC);
+        write!(f, "/{port_a},{port_b},{port_c}/")?;
+        for value in board.calibration.trim {
+            write!(f, "{value:02X}")?;
+        }
+        Ok(())
     }
 }
 
-fn show_codes(rt: &impl Print, o: Outputs) -> io::Result<()> {
-    show_code(rt, outputs::code_at(o, 0))?;
-    rt.write_all(b",")?;
-    show_code(rt, outputs::code_at(o, 1))?;
-    rt.write_all(b",")?;
-    show_code(rt, outputs::code_at(o, 2))?;
-    rt.write_all(b",")?;
-    show_code(rt, outputs::code_at(o, 3))
+// The four output codes. A code above 4095 is shown as 1000.
+#[derive(Clone, Copy)]
+struct Codes(Outputs);
+
+impl fmt::Display for Codes {
+    fn fmt<W: fmt::Write>(&self, f: &mut fmt::Formatter<W>) -> fmt::Result {
+        let code0 = outputs::code_at(self.0, 0).min(0x1000);
+        let code1 = outputs::code_at(self.0, 1).min(0x1000);
+        let code2 = outputs::code_at(self.0, 2).min(0x1000);
+        let code3 = outputs::code_at(self.0, 3).min(0x1000);
+        write!(f, "{code0:03X},{code1:03X},{code2:03X},{code3:03X}")
+    }
 }
 
-fn level_of(high: bool) -> u8 {
-    if high { b'H' } else { b'L' }
+// The levels of DOUT2, DOUT1, DOUT0.
+#[derive(Clone, Copy)]
+struct Dout(u8);
+
+fn level_of(high: bool) -> char {
+    if high { 'H' } else { 'L' }
 }
 
-fn show_dout(rt: &impl Print, pins: u8) -> io::Result<()> {
-    let shown = [
-        b'/',
-        level_of(pins / 4 % 2 == 1),
-        level_of(pins / 2 % 2 == 1),
-        level_of(pins % 2 == 1),
-    ];
-    rt.write_all(&shown)
+impl fmt::Display for Dout {
+    fn fmt<W: fmt::Write>(&self, f: &mut fmt::Formatter<W>) -> fmt::Result {
+        let dout2 = level_of(self.0 / 4 % 2 == 1);
+        let dout1 = level_of(self.0 / 2 % 2 == 1);
+        let dout0 = level_of(self.0 % 2 == 1);
+        write!(f, "{dout2}{dout1}{dout0}")
+    }
 }
 
-fn show_port(rt: &impl Print, p: Ports, before: u8, q: Port) -> io::Result<()> {
-    let driven = ports::driven_lines(p, q);
-    let levels = ports::driven_levels(p, q);
-    let shown = [
-        before,
-        session_digits::hex_digit(driven / 16),
-        session_digits::hex_digit(driven),
-        b'.',
-        session_digits::hex_digit(levels / 16),
-        session_digits::hex_digit(levels),
-    ];
-    rt.write_all(&shown)
+// Which lines of a port are driven, and their levels.
+#[derive(Clone, Copy)]
+struct DrivenLines(Ports, Port);
+
+impl fmt::Display for DrivenLines {
+    fn fmt<W: fmt::Write>(&self, f: &mut fmt::Formatter<W>) -> fmt::Result {
+        let driven = ports::driven_lines(self.0, self.1);
+        let levels = ports::driven_levels(self.0, self.1);
+        write!(f, "{driven:02X}.{levels:02X}")
+    }
 }
 
-fn show_trim(rt: &impl Print, v: u8) -> io::Result<()> {
-    let shown = [
-        session_digits::hex_digit(v / 16),
-        session_digits::hex_digit(v),
-    ];
-    rt.write_all(&shown)
+// How many samples are held; the oldest and the newest of them, where the memory that is lent has their places.
+#[derive(Clone, Copy)]
+pub struct Samples<'a> {
+    pub fifo: Fifo,
+    pub memory: &'a [u16],
+    // How many places there are, round which the samples stand.
+    pub places: usize,
 }
 
-fn show_trimdac(rt: &impl Print, trim: [u8; 8]) -> io::Result<()> {
-    rt.write_all(b"/")?;
-    show_trim(rt, trim[0])?;
-    show_trim(rt, trim[1])?;
-    show_trim(rt, trim[2])?;
-    show_trim(rt, trim[3])?;
-    show_trim(rt, trim[4])?;
-    show_trim(rt, trim[5])?;
-    show_trim(rt, trim[6])?;
-    show_trim(rt, trim[7])
-}
-
-pub fn show_host(rt: &impl Print, b: Board) -> io::Result<()> {
-    rt.write_all(b" ")?;
-    show_codes(rt, b.outputs)?;
-    show_dout(rt, machine::dout_pins(b))?;
-    let p = b.ports;
-    show_port(rt, p, b'/', Port::PortA)?;
-    show_port(rt, p, b',', Port::PortB)?;
-    show_port(rt, p, b',', Port::PortC)?;
-    let c = b.calibration;
-    let trim = c.trim;
-    show_trimdac(rt, trim)
-}
-
-// The numbers at two places, where there are such places.
-fn show_ends(rt: &impl Print, memory: &[u16], oldest: usize, newest: usize) -> io::Result<()> {
-    if oldest < memory.len() {
-        if newest < memory.len() {
-            rt.write_all(b":")?;
-            show_digits(rt, memory[oldest])?;
-            rt.write_all(b"-")?;
-            show_digits(rt, memory[newest])?;
+impl Samples<'_> {
+    // The place of the newest sample; none where none is held, or where they are not within the places.
+    fn newest(&self) -> Option<usize> {
+        let place = self.fifo.place as usize;
+        let held = self.fifo.held as usize;
+        if held == 0 || held > self.places || place >= self.places {
+            return None;
+        }
+        let ahead = self.places - place;
+        if held <= ahead {
+            Some(place + (held - 1))
+        } else {
+            Some(held - ahead - 1)
         }
     }
-    Ok(())
 }
 
-// The oldest and the newest of the samples held, which stand from `place` on, round the memory's places.
-fn show_range(
-    rt: &impl Print,
-    memory: &[u16],
-    places: usize,
-    place: usize,
-    held: usize,
-) -> io::Result<()> {
-    if place < places {
-        if held > 0 {
-            let ahead = places - place;
-            if held <= ahead {
-                show_ends(rt, memory, place, place + (held - 1))?;
-            } else if held <= places {
-                show_ends(rt, memory, place, held - ahead - 1)?;
+impl fmt::Display for Samples<'_> {
+    fn fmt<W: fmt::Write>(&self, f: &mut fmt::Formatter<W>) -> fmt::Result {
+        write!(f, "{}", self.fifo.held)?;
+        if let Some(newest) = self.newest() {
+            let oldest = self.memory.get(self.fifo.place as usize);
+            if let (Some(oldest), Some(newest)) = (oldest, self.memory.get(newest)) {
+                write!(f, ":{oldest:04X}-{newest:04X}")?;
             }
         }
+        Ok(())
     }
-    Ok(())
-}
-
-pub fn show_samples(rt: &impl Print, f: Fifo, memory: &[u16], places: usize) -> io::Result<()> {
-    rt.write_all(b" ")?;
-    rt.print(f.held as u64)?;
-    show_range(rt, memory, places, f.place as usize, f.held as usize)
 }

@@ -1,72 +1,61 @@
-// What the operations of a case show, each after a space.
+// What the operations of a case show of a value, each after a space.
+use base::Refusal;
 use collector::{Access, Collector, Handed, Sample, Taken};
-use std::io;
+use std::fmt;
 
-// A refusal: ! and its number.
-pub fn refusal(rt: &impl Print, n: u8) -> io::Result<()> {
-    cases::text(rt, b" !")?;
-    cases::decimal(rt, n as u64)
-}
+#[derive(Clone, Copy)]
+pub struct Shown<T>(pub T);
 
-// A sample: its channel, = and its code.
-pub fn sample(rt: &impl Print, y: Sample) -> io::Result<()> {
-    cases::text(rt, b" ")?;
-    cases::decimal(rt, y.channel as u64)?;
-    cases::text(rt, b"=")?;
-    cases::code(rt, y.code)
-}
-
-// An access: W offset=value, R offset, X offset, or a refusal.
-pub fn access(rt: &impl Print, x: Access) -> io::Result<()> {
-    match x {
-        Access::WriteByte { offset, value } => {
-            cases::text(rt, b" W")?;
-            cases::decimal(rt, offset as u64)?;
-            cases::text(rt, b"=")?;
-            cases::decimal(rt, value as u64)
-        }
-        Access::ReadByte { offset } => {
-            cases::text(rt, b" R")?;
-            cases::decimal(rt, offset as u64)
-        }
-        Access::ReadWord { offset } => {
-            cases::text(rt, b" X")?;
-            cases::decimal(rt, offset as u64)
-        }
-        Access::NoAccess(n) => refusal(rt, n),
+// ! and its number.
+impl fmt::Display for Shown<Refusal> {
+    fn fmt<W: fmt::Write>(&self, f: &mut fmt::Formatter<W>) -> fmt::Result {
+        write!(f, " !{}", self.0.number)
     }
 }
 
-// What is handed over: - for nothing, run for the end of a start, a sample, a sample with | for the gap, or a refusal.
-fn handed(rt: &impl Print, h: Handed) -> io::Result<()> {
-    match h {
-        Handed::Nothing => cases::text(rt, b" -"),
-        Handed::StartEnd => cases::text(rt, b" run"),
-        Handed::OneSample(y) => sample(rt, y),
-        Handed::LastSample(y) => {
-            sample(rt, y)?;
-            cases::text(rt, b"|")
+// Its channel, = and its code.
+impl fmt::Display for Shown<Sample> {
+    fn fmt<W: fmt::Write>(&self, f: &mut fmt::Formatter<W>) -> fmt::Result {
+        write!(f, " {}={}", self.0.channel, self.0.code)
+    }
+}
+
+// W offset=value, R offset, X offset, or a refusal.
+impl fmt::Display for Shown<Result<Access, Refusal>> {
+    fn fmt<W: fmt::Write>(&self, f: &mut fmt::Formatter<W>) -> fmt::Result {
+        match self.0 {
+            Ok(Access::WriteByte { offset, value }) => write!(f, " W{offset}={value}"),
+            Ok(Access::ReadByte { offset }) => write!(f, " R{offset}"),
+            Ok(Access::ReadWord { offset }) => write!(f, " X{offset}"),
+            Err(refusal) => write!(f, "{}", Shown(refusal)),
         }
-        Handed::Refused(n) => refusal(rt, n),
+    }
+}
+
+// - for nothing, run for the end of a start, a sample, a sample with | for the gap, or a refusal.
+impl fmt::Display for Shown<Handed> {
+    fn fmt<W: fmt::Write>(&self, f: &mut fmt::Formatter<W>) -> fmt::Result {
+        match self.0 {
+            Handed::Nothing => f.write_str(" -"),
+            Handed::StartEnd => f.write_str(" run"),
+            Handed::OneSample(sample) => write!(f, "{}", Shown(sample)),
+            Handed::LastSample(sample) => write!(f, "{}|", Shown(sample)),
+            Handed::Refused(number) => write!(f, "{}", Shown(Refusal { number })),
+        }
     }
 }
 
 // What is handed over, / and the polls.
-pub fn taken(rt: &impl Print, t: Taken) -> io::Result<()> {
-    let h = t.handed;
-    handed(rt, h)?;
-    cases::text(rt, b"/")?;
-    cases::decimal(rt, t.polls as u64)
+impl fmt::Display for Shown<Taken> {
+    fn fmt<W: fmt::Write>(&self, f: &mut fmt::Formatter<W>) -> fmt::Result {
+        write!(f, "{}/{}", Shown(self.0.handed), self.0.polls)
+    }
 }
 
-// A record: phase, next channel, polls, reads left.
-pub fn record(rt: &impl Print, c: Collector) -> io::Result<()> {
-    cases::text(rt, b" ")?;
-    cases::decimal(rt, c.phase as u64)?;
-    cases::text(rt, b".")?;
-    cases::decimal(rt, c.next as u64)?;
-    cases::text(rt, b".")?;
-    cases::decimal(rt, c.polls as u64)?;
-    cases::text(rt, b".")?;
-    cases::decimal(rt, c.left as u64)
+// Phase, next channel, polls, reads left.
+impl fmt::Display for Shown<Collector> {
+    fn fmt<W: fmt::Write>(&self, f: &mut fmt::Formatter<W>) -> fmt::Result {
+        let c = self.0;
+        write!(f, " {}.{}.{}.{}", c.phase, c.next, c.polls, c.left)
+    }
 }

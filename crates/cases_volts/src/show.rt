@@ -1,79 +1,93 @@
-// Prints the answers of a case: exact decimals, numbers, refusals.
-use std::io;
+// How the answers of a case are shown: exact decimals, numbers, refusals.
+use std::fmt;
 
-// The digits after the point, as many as there are: rest stands for rest / 10 ^ 18.
-fn fraction(rt: &impl Print, rest: u64) -> io::Result<()> {
-    let mut rest = rest % 1000000000000000000;
-    if rest == 0 {
-        return Ok(());
-    }
-    rt.write_all(b".")?;
-    let mut places: u64 = 18;
-    while places > 0 {
-        if rest == 0 {
-            return Ok(());
+// The digits after the point, as many as there are: the number stands for so many times 10 ^ -18.
+#[derive(Clone, Copy)]
+struct Fraction(u64);
+
+impl fmt::Display for Fraction {
+    fn fmt<W: fmt::Write>(&self, f: &mut fmt::Formatter<W>) -> fmt::Result {
+        let mut rest = self.0 % 1000000000000000000;
+        if rest != 0 {
+            f.write_str(".")?;
         }
-        rt.print(rest / 100000000000000000)?;
-        rest = rest % 100000000000000000 * 10;
-        places -= 1;
+        for _ in 0..18 {
+            if rest == 0 {
+                break;
+            }
+            write!(f, "{}", rest / 100000000000000000)?;
+            rest = rest % 100000000000000000 * 10;
+        }
+        Ok(())
     }
-    Ok(())
 }
 
 // So many times 2 ^ -18: a fraction over 2 ^ 18 is 5 ^ 18 times as much over 10 ^ 18.
-fn over_two_to_18(rt: &impl Print, n: u64) -> io::Result<()> {
-    rt.print(n / 262144)?;
-    fraction(rt, n % 262144 * 3814697265625)
+#[derive(Clone, Copy)]
+struct OverTwoTo18(u64);
+
+impl fmt::Display for OverTwoTo18 {
+    fn fmt<W: fmt::Write>(&self, f: &mut fmt::Formatter<W>) -> fmt::Result {
+        let fraction = Fraction(self.0 % 262144 * 3814697265625);
+        write!(f, "{}{fraction}", self.0 / 262144)
+    }
 }
 
-// x, which is not negative. What is no whole number over 2 ^ 18 below 2 ^ 46 is shown as inexact.
-fn magnitude(rt: &impl Print, x: f64) -> io::Result<()> {
-    let n = x * 262144.0;
-    if n > -1.0 {
-        if n < 18446744073709551616.0 {
+// A number that is not negative. What is no whole number over 2 ^ 18 below 2 ^ 46 is shown as inexact.
+#[derive(Clone, Copy)]
+struct Magnitude(f64);
+
+impl fmt::Display for Magnitude {
+    fn fmt<W: fmt::Write>(&self, f: &mut fmt::Formatter<W>) -> fmt::Result {
+        let n = self.0 * 262144.0;
+        if n > -1.0 && n < 18446744073709551616.0 {
             let whole = std::num::truncating_f64_to_u64(n);
-            over_two_to_18(rt, whole)?;
+            write!(f, "{}", OverTwoTo18(whole))?;
             if std::num::nearest_u64_to_f64(whole) != n {
-                rt.write_all(b" inexact")?;
+                f.write_str(" inexact")?;
             }
         }
+        Ok(())
     }
-    Ok(())
 }
 
 // Volts as an exact decimal; of -0.0 the sign is shown.
-pub fn volts(rt: &impl Print, x: f64) -> io::Result<()> {
-    if (x < 0.0) | (1.0 / x < 0.0) {
-        rt.write_all(b"-")?;
-        magnitude(rt, -x)?;
-    } else {
-        magnitude(rt, x)?;
+#[derive(Clone, Copy)]
+pub struct Volts(pub f64);
+
+impl fmt::Display for Volts {
+    fn fmt<W: fmt::Write>(&self, f: &mut fmt::Formatter<W>) -> fmt::Result {
+        let volts = self.0;
+        if (volts < 0.0) | (1.0 / volts < 0.0) {
+            write!(f, "-{} V", Magnitude(-volts))
+        } else {
+            write!(f, "{} V", Magnitude(volts))
+        }
     }
-    rt.write_all(b" V\n")
 }
 
-pub fn refused(rt: &impl Print, number: u32) -> io::Result<()> {
-    rt.write_all(b"refused ")?;
-    rt.print(number as u64)?;
-    rt.write_all(b"\n")
+// The plain number of a code: the code, or 65536 and the number of its refusal.
+#[derive(Clone, Copy)]
+pub struct Code(pub u32);
+
+impl fmt::Display for Code {
+    fn fmt<W: fmt::Write>(&self, f: &mut fmt::Formatter<W>) -> fmt::Result {
+        match self.0.checked_sub(65536) {
+            Some(number) => write!(f, "refused {number}"),
+            None => write!(f, "{}", self.0),
+        }
+    }
 }
 
-// The plain number of a code: the code or its refusal.
-pub fn code(rt: &impl Print, n: u32) -> io::Result<()> {
-    if n >= 65536 {
-        return refused(rt, n - 65536);
-    }
-    rt.print(n as u64)?;
-    rt.write_all(b"\n")
-}
+// The plain number of two bytes: the LSB and 256 times the MSB, or 65536 and the number of the refusal.
+#[derive(Clone, Copy)]
+pub struct Bytes(pub u32);
 
-// The plain number of two bytes: the LSB and the MSB, or the refusal.
-pub fn bytes(rt: &impl Print, n: u32) -> io::Result<()> {
-    if n >= 65536 {
-        return refused(rt, n - 65536);
+impl fmt::Display for Bytes {
+    fn fmt<W: fmt::Write>(&self, f: &mut fmt::Formatter<W>) -> fmt::Result {
+        match self.0.checked_sub(65536) {
+            Some(number) => write!(f, "refused {number}"),
+            None => write!(f, "{} {}", self.0 % 256, self.0 / 256),
+        }
     }
-    rt.print((n % 256) as u64)?;
-    rt.write_all(b" ")?;
-    rt.print((n / 256) as u64)?;
-    rt.write_all(b"\n")
 }

@@ -2,14 +2,13 @@
 -- The polls and the history (the specification, "The collector": "The polls reported equal the reads of offset 8 made since this start
 -- whose answers were taken. A restart counts anew"; "How firm the contracts are": "It shuts out an invented poll count, since that equals
 -- reads in the history").
-use Rattle.std.specs.Prelude.{◌≡◌, true}
+use Rattle.std.specs.Prelude.{◌≡◌, true, Ok}
 use Rattle.std.proofs.Math.Path.{refl, ap}
 use Rattle.std.proofs.Common.{◌∙◌}
 use Rattle.collector_settings.specs.declared.Settings.{Settings}
 use Rattle.collector_phases.specs.declared.Collector.{Collector}
 use Rattle.samples.specs.declared.Sample.{Sample}
 use Rattle.collector_answers.specs.declared.BusAnswer.{BusAnswer}
-use Rattle.collector_records.specs.declared.Started.TheVariants.{Begun}
 use Rattle.collector_steps.specs.declared.Handed.TheVariants.{LastSample}
 use Rattle.collector_phases.specs.Phases.{phase_of}
 use Rattle.collector_phases.specs.Fit.{FitSettings}
@@ -48,7 +47,7 @@ after_then c r begin = refl
 after_then c r (q ▸ a) = ap (λ (d : Collector). (replied d a).collector) (after_then c r q)
 
 -- A collector that a start gave, after any run of answers
-module _ (s : Settings) (c : Collector) (h : start_of s ≡ Begun c) where
+module _ (s : Settings) (c : Collector) (h : start_of s ≡ Ok c) where
   -- the polls reported are the reads of offset 8 made since this start whose answers were taken
   pub polls_are_reads : (r : Brought) (a : BusAnswer) → (replied (after_answers c r) a).polls ≡ polls_since (history_of c (r ▸ a))
   polls_are_reads r a = let e = started-begun s c h in rw e.0 (reported s e.1 r a (held s e.1 r))

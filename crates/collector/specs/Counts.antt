@@ -1,12 +1,13 @@
 -- How a step counts polls, and what it leaves of settings and polls; the laws of specs/History.antt are made of these.
-use Rattle.std.specs.Prelude.{ℕ, ◌+◌, ◌≤◌, ◌<◌, ◌≡◌, refl, Bool, true, false, ◌&&◌, eqb, if◌then◌else◌}
+use Rattle.std.specs.Prelude.{ℕ, ◌+◌, ◌≤◌, ◌<◌, ◌≡◌, refl, Bool, true, false, ◌&&◌, Result, Ok, Err, eqb, if◌then◌else◌}
 use Rattle.std.proofs.Common.{arith}
+use Rattle.base.specs.declared.Refusal.{Refusal}
 use Rattle.collector_phases.specs.declared.Collector.{Collector}
 use Rattle.samples.specs.declared.Sample.{Sample}
 use Rattle.collector_phases.specs.declared.Phase.{Phase}
 use Rattle.collector_phases.specs.declared.Phase.TheVariants.{Stop, Poll, Range, Clear, Low, High, Go, Look, Take, Drain, Stuck, Unknown}
 use Rattle.collector_phases.specs.declared.Access.{Access}
-use Rattle.collector_phases.specs.declared.Access.TheVariants.{WriteByte, ReadByte, ReadWord, NoAccess}
+use Rattle.collector_phases.specs.declared.Access.TheVariants.{WriteByte, ReadByte, ReadWord}
 use Rattle.collector_answers.specs.declared.BusAnswer.{BusAnswer}
 use Rattle.collector_steps.specs.declared.Handed.{Handed}
 use Rattle.collector_steps.specs.declared.Handed.TheVariants.{Nothing, StartEnd, OneSample, LastSample, Refused}
@@ -20,11 +21,11 @@ use Rattle.collector.specs.Steps.{look_no_byte, look-empty, look-full, look-few,
 
 -- ---- the reads of offset 8 in a history
 -- 9←0, with which a start begins
-abbrev pub begins_start : Access → Bool
-begins_start (WriteByte o v) = eqb o 9 && eqb v 0
-begins_start (ReadByte o) = false
-begins_start (ReadWord o) = false
-begins_start (NoAccess n) = false
+abbrev pub begins_start : Result Access Refusal → Bool
+begins_start (Ok (WriteByte o v)) = eqb o 9 && eqb v 0
+begins_start (Ok (ReadByte o)) = false
+begins_start (Ok (ReadWord o)) = false
+begins_start (Err e) = false
 
 -- the answer was taken: a refused one is not, save that of the last poll (15)
 abbrev pub answer_taken : Handed → Bool
@@ -35,7 +36,7 @@ answer_taken (LastSample y) = true
 answer_taken (Refused n) = eqb n 15
 
 -- the reads of offset 8 whose answers were taken, counting on from n and anew at each start: the board served the read, and the collector took the answer
-abbrev pub counted_on : Access → Bool → Handed → ℕ → ℕ
+abbrev pub counted_on : Result Access Refusal → Bool → Handed → ℕ → ℕ
 counted_on x is_served h n =
     if begins_start x then 0
     else if reads 8 x && (is_served && answer_taken h) then n + 1

@@ -1,16 +1,16 @@
 -- The polls and the history (the specification, "The collector": "The polls reported equal the reads of offset 8 made since this start
 -- whose answers were taken. A restart counts anew"; "How firm the contracts are": "It shuts out an invented poll count, since that equals
 -- reads in the history").
-use Rattle.std.specs.Prelude.{ℕ, ◌≤◌, ◌≡◌}
+use Rattle.std.specs.Prelude.{ℕ, ◌≤◌, ◌≡◌, Ok, Result}
 use Rattle.std.proofs.Math.Path.{refl, sym, ap}
 use Rattle.std.proofs.Common.{◌∙◌, subst}
+use Rattle.base.specs.declared.Refusal.{Refusal}
 use Rattle.collector_settings.specs.declared.Settings.{Settings}
 use Rattle.collector_phases.specs.declared.Collector.{Collector}
 use Rattle.samples.specs.declared.Sample.{Sample}
 use Rattle.collector_phases.specs.declared.Access.{Access}
 use Rattle.collector_answers.specs.declared.BusAnswer.{BusAnswer}
 use Rattle.collector_answers.specs.Answers.{served}
-use Rattle.collector_records.specs.declared.Started.TheVariants.{Begun}
 use Rattle.collector_steps.specs.declared.Handed.TheVariants.{LastSample}
 use Rattle.collector_steps.specs.declared.Taken.{Taken}
 use Rattle.collector_phases.specs.Fit.{FitSettings, FitCollector}
@@ -35,7 +35,7 @@ after_answers c (r ▸ a) = (replied (after_answers c r) a).collector
 
 -- an access made, what it brought, and what became of that
 pub record Exchange : Type 0 where
-  pub access : Access
+  pub access : Result Access Refusal
   pub answer : BusAnswer
   pub taken : Taken
 
@@ -78,7 +78,7 @@ r then begin = r
 r then (q ▸ a) = (r then q) ▸ a
 
 -- A collector that a start gave, after any run of answers
-module _ (s : Settings) (c : Collector) (h : start_of s ≡ Begun c) where
+module _ (s : Settings) (c : Collector) (h : start_of s ≡ Ok c) where
   -- it is fit, with the settings of its start
   pub always_fit : (r : Brought) → FitCollector (after_answers c r)
   always_fit r = let e = started-begun s c h in rw e.0 (fit-after s e.1 r)

@@ -1,13 +1,13 @@
 -- A fit collector stays fit: a start makes a fit one, and every answer leaves one.
-use Rattle.std.specs.Prelude.{ℕ, ◌+◌, ◌-◌, ◌≤◌, ◌<◌, ◌≡◌, refl, Bool, true, false, eqb, leb, if◌then◌else◌}
+use Rattle.std.specs.Prelude.{ℕ, ◌+◌, ◌-◌, ◌≤◌, ◌<◌, ◌≡◌, refl, Bool, true, false, Ok, Err, eqb, leb, if◌then◌else◌}
 use native.Mathlib.Omega.{arith}
 use borrow.Author.Tests.{eqb-true, eqb-false, leb-true, leb-false}
 use Rattle.base.specs.Laws.{by-test}
+use Rattle.base.specs.Checks.{refused_by}
 use Rattle.collector_settings.specs.declared.Settings.{Settings}
 use Rattle.collector_phases.specs.declared.Collector.{Collector}
 use Rattle.collector_phases.specs.declared.Phase.{Phase}
 use Rattle.collector_phases.specs.declared.Phase.TheVariants.{Stop, Poll, Range, Clear, Low, High, Go, Look, Take, Drain, Stuck, Unknown}
-use Rattle.collector_records.specs.declared.Started.TheVariants.{Begun, NotBegun}
 use Rattle.collector_answers.specs.declared.BusAnswer.{BusAnswer}
 use Rattle.collector_steps.specs.declared.Taken.{Taken}
 use Rattle.collector_settings.specs.Settings.{start_refusal}
@@ -26,17 +26,17 @@ unfolding phase_of
 begun-fit s f = record { settings = f; from_low = omega arith; to_high = f.order; polls = omega arith; phase = refl }
 
 -- a start that is taken is the first record of fit settings
-pub started-begun : (s : Settings) (c : Collector) → start_of s ≡ Begun c → (c ≡ first_record s) × FitSettings s
+pub started-begun : (s : Settings) (c : Collector) → start_of s ≡ Ok c → (c ≡ first_record s) × FitSettings s
 unfolding start_of
 started-begun s c h = from (eqb (start_refusal s) 0) refl h
   where
-    from : (b : Bool) → eqb (start_refusal s) 0 ≡ b → (if b then Begun (first_record s) else NotBegun (start_refusal s)) ≡ Begun c
+    from : (b : Bool) → eqb (start_refusal s) 0 ≡ b → (if b then Ok (first_record s) else Err (refused_by (start_refusal s))) ≡ Ok c
         → (c ≡ first_record s) × FitSettings s
     from true e g = (cc, settings_of s (eqb-true _ _ e))
     from false e g = absurd (let z : ◌≡◌ {A = ℕ} 0 1 = cc in omega arith)
 
 -- fit settings are taken
-pub started-fit : (s : Settings) → FitSettings s → start_of s ≡ Begun (first_record s)
+pub started-fit : (s : Settings) → FitSettings s → start_of s ≡ Ok (first_record s)
 unfolding start_of
 started-fit s f = rw (settings-to s f)
 

@@ -1,19 +1,17 @@
 -- The collector's answers in the specification's numbers: of a start, of a question for the access and of an answer it is the number of the
 -- first check that holds, 0 where none does. And a start ends with its last write.
-use Rattle.std.specs.Prelude.{ℕ, ◌≡◌, refl, Bool, true, false, not, List, [], ◌∷◌, eqb, leb, if◌then◌else◌}
+use Rattle.std.specs.Prelude.{ℕ, ◌≡◌, refl, Bool, true, false, not, List, [], ◌∷◌, Ok, Err, eqb, leb, if◌then◌else◌}
 use Rattle.std.proofs.Common.{sym, eqb-true}
-use Rattle.base.specs.Checks.{Check, ◌refuses◌, refusal}
+use Rattle.base.specs.Checks.{Check, ◌refuses◌, refusal, refused_by}
 use Rattle.base.specs.Laws.{by_choice}
 use Rattle.collector_settings.specs.declared.Settings.{Settings}
 use Rattle.collector_settings.specs.Settings.{start_refusal}
 use Rattle.collector_phases.specs.declared.Collector.{Collector}
 use Rattle.collector_phases.specs.declared.Phase.{Phase}
 use Rattle.collector_phases.specs.declared.Phase.TheVariants.{Stop, Poll, Range, Clear, Low, High, Go, Look, Take, Drain, Stuck, Unknown}
-use Rattle.collector_phases.specs.declared.Access.TheVariants.{NoAccess}
 use Rattle.collector_phases.specs.Phases.{phase_of, access_in, is_none}
 use Rattle.collector_phases.specs.Fit.{FitIn, fit}
 use Rattle.collector_phases.specs.Accesses.{access_of}
-use Rattle.collector_records.specs.declared.Started.TheVariants.{Begun, NotBegun}
 use Rattle.collector_records.specs.Records.{first_record, start_of}
 use Rattle.collector_refusals.specs.Refusals.{answer_checks}
 use Rattle.collector_answers.specs.declared.BusAnswer.{BusAnswer}
@@ -31,7 +29,7 @@ unfolding start_of
 start-number s = by (eqb (start_refusal s) 0) refl
   where
     by : (t : Bool) → eqb (start_refusal s) 0 ≡ t
-        → start_number (if t then Begun (first_record s) else NotBegun (start_refusal s)) ≡ start_refusal s
+        → start_number (if t then Ok (first_record s) else Err (refused_by (start_refusal s))) ≡ start_refusal s
     by true h = sym (eqb-true _ _ h)
     by false h = refl
 
@@ -58,7 +56,7 @@ access-number c = by (fit c) refl
     in_phase Unknown f = absurd f
 
     by : (t : Bool) → fit c ≡ t
-        → access_number (if t then access_in (phase_of c.phase) c.settings else NoAccess 1)
+        → access_number (if t then access_in (phase_of c.phase) c.settings else Err (refused_by 1))
         ≡ refusal (not t refuses 1 ∷ is_none (access_in (phase_of c.phase) c.settings) refuses 15 ∷ [])
     by true h = in_phase (phase_of c.phase) (fit_of c h).phase
     by false h = refl

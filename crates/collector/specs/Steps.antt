@@ -1,13 +1,12 @@
 -- Every step of a fit collector, one by one: the phase, what came of its access, and the collector and what is handed over afterwards.
 -- The laws of specs/Kept.antt, History.antt and Table.antt go through this list.
-use Rattle.std.specs.Prelude.{ℕ, ◌-◌, ◌≡◌, refl, Bool, true, false, ◌∷◌, leb}
+use Rattle.std.specs.Prelude.{ℕ, ◌-◌, ◌≡◌, refl, Bool, true, false, ◌∷◌, Err, leb}
 use Rattle.std.proofs.Common.{ap}
-use Rattle.base.specs.Checks.{◌refuses◌, refusal}
+use Rattle.base.specs.Checks.{◌refuses◌, refusal, refused_by}
 use Rattle.base.specs.Laws.{never}
 use Rattle.collector_phases.specs.declared.Collector.{Collector}
 use Rattle.collector_phases.specs.declared.Phase.{Phase}
 use Rattle.collector_phases.specs.declared.Phase.TheVariants.{Stop, Poll, Range, Clear, Low, High, Go, Look, Take, Drain, Stuck, Unknown}
-use Rattle.collector_phases.specs.declared.Access.TheVariants.{NoAccess}
 use Rattle.collector_steps.specs.declared.Handed.TheVariants.{Nothing, StartEnd, OneSample, Refused}
 use Rattle.collector_steps.specs.declared.Taken.{Taken}
 use Rattle.collector_phases.specs.Phases.{phase_number, phase_of, access_in, is_none}
@@ -154,6 +153,6 @@ pub reply-unfit : (c : Collector) (a : BusAnswer) → fit c ≡ false → replie
 unfolding replied
 reply-unfit c a h = rw h
 
-pub access-unfit : (c : Collector) → fit c ≡ false → access_of c ≡ NoAccess 1
+pub access-unfit : (c : Collector) → fit c ≡ false → access_of c ≡ Err (refused_by 1)
 unfolding access_of
 access-unfit c h = rw h

@@ -3,15 +3,17 @@
 -- reads handed over, a gap marked with the last, start again"; of a look, request M-108: "goes by EF first, FF next, and reads nothing else"; of a
 -- word read, request M-100: told "nothing", "it keeps its record"). It covers every phase of a fit collector and whatever came of its access, so of
 -- a look each of the 256 bytes; and none handles its first look and idles afterwards.
-use Rattle.std.specs.Prelude.{ℕ, ◌≡◌, refl, Bool, true, false, ◌&&◌, List, [], ◌∷◌, eqb, leb, if◌then◌else◌}
+use Rattle.std.specs.Prelude.{ℕ, ◌≡◌, refl, Bool, true, false, ◌&&◌, List, [], ◌∷◌, Result, Ok, Err, eqb, leb, if◌then◌else◌}
 use Rattle.std.proofs.Common.{sym, ap, ◌∙◌}
 use Rattle.base.specs.Laws.{never}
+use Rattle.base.specs.declared.Refusal.{Refusal}
+use Rattle.base.specs.Checks.{refused_by}
 use Rattle.collector_settings.specs.declared.Settings.{Settings}
 use Rattle.collector_phases.specs.declared.Collector.{Collector}
 use Rattle.collector_phases.specs.declared.Phase.{Phase}
 use Rattle.collector_phases.specs.declared.Phase.TheVariants.{Stop, Poll, Range, Clear, Low, High, Go, Look, Take, Drain, Stuck, Unknown}
 use Rattle.collector_phases.specs.declared.Access.{Access}
-use Rattle.collector_phases.specs.declared.Access.TheVariants.{WriteByte, ReadByte, ReadWord, NoAccess}
+use Rattle.collector_phases.specs.declared.Access.TheVariants.{WriteByte, ReadByte, ReadWord}
 use Rattle.collector_steps.specs.declared.Taken.{Taken}
 use Rattle.collector_settings.specs.Settings.{clock_byte}
 use Rattle.collector_phases.specs.Phases.{phase_number, phase_of}
@@ -66,34 +68,34 @@ kind_in Unknown c a = any
 pub record Row : Type 0 where
   pub phase : Phase
   pub answer : Kind
-  pub next : Access
+  pub next : Result Access Refusal
 
-abbrev pub row : Phase → Kind → Access → Row
+abbrev pub row : Phase → Kind → Result Access Refusal → Row
 row p k x = record { phase = p; answer = k; next = x }
 
 -- in this phase, after this answer, the next access
 abbrev pub table : Settings → List Row
 table s =
-    row Stop any (ReadByte 8)
-    ∷ row Poll no_byte_came (ReadByte 8)
-    ∷ row Poll STS=1 (ReadByte 8)
-    ∷ row Poll STS=1-last (NoAccess 15)
-    ∷ row Poll STS=0 (WriteByte 11 s.range)
-    ∷ row Range any (WriteByte 7 2)
-    ∷ row Clear any (WriteByte 2 s.low)
-    ∷ row Low any (WriteByte 3 s.high)
-    ∷ row High any (WriteByte 9 (clock_byte s))
-    ∷ row Go any (ReadByte 7)
-    ∷ row Look no_byte_came (ReadByte 7)
-    ∷ row Look empty (ReadByte 7)
-    ∷ row Look not_full (ReadWord 0)
-    ∷ row Look full (ReadWord 0)
-    ∷ row Take sample (ReadByte 7)
-    ∷ row Take nothing (ReadWord 0)
-    ∷ row Drain nothing (ReadWord 0)
-    ∷ row Drain more (ReadWord 0)
-    ∷ row Drain last (WriteByte 9 0)
-    ∷ row Stuck any (NoAccess 15)
+    row Stop any (Ok (ReadByte 8))
+    ∷ row Poll no_byte_came (Ok (ReadByte 8))
+    ∷ row Poll STS=1 (Ok (ReadByte 8))
+    ∷ row Poll STS=1-last (Err (refused_by 15))
+    ∷ row Poll STS=0 (Ok (WriteByte 11 s.range))
+    ∷ row Range any (Ok (WriteByte 7 2))
+    ∷ row Clear any (Ok (WriteByte 2 s.low))
+    ∷ row Low any (Ok (WriteByte 3 s.high))
+    ∷ row High any (Ok (WriteByte 9 (clock_byte s)))
+    ∷ row Go any (Ok (ReadByte 7))
+    ∷ row Look no_byte_came (Ok (ReadByte 7))
+    ∷ row Look empty (Ok (ReadByte 7))
+    ∷ row Look not_full (Ok (ReadWord 0))
+    ∷ row Look full (Ok (ReadWord 0))
+    ∷ row Take sample (Ok (ReadByte 7))
+    ∷ row Take nothing (Ok (ReadWord 0))
+    ∷ row Drain nothing (Ok (ReadWord 0))
+    ∷ row Drain more (Ok (ReadWord 0))
+    ∷ row Drain last (Ok (WriteByte 9 0))
+    ∷ row Stuck any (Err (refused_by 15))
     ∷ []
 
 -- the table has one row for a phase and a kind of answer: the kinds by number, so that rows can be told apart
@@ -115,8 +117,8 @@ abbrev is : Row → Phase → Kind → Bool
 is r p k = eqb (phase_number r.phase) (phase_number p) && eqb (kind_number r.answer) (kind_number k)
 
 -- what the rows give as the next access: that of the first row for the phase and the kind of answer
-abbrev pub given : List Row → Phase → Kind → Access
-given [] p k = NoAccess 0
+abbrev pub given : List Row → Phase → Kind → Result Access Refusal
+given [] p k = Err (refused_by 0)
 given (r ∷ rs) p k = if is r p k then r.next else given rs p k
 
 -- Where the board refuses the access, any record stays, and so the same access is named again.

@@ -5,7 +5,7 @@
 
 pub use collector_answers::BusAnswer;
 pub use collector_phases::{Access, Collector, access_of, is_fit};
-pub use collector_records::{Started, start};
+pub use collector_records::start;
 pub use collector_replies::take_answer;
 pub use collector_settings::Settings;
 pub use collector_steps::{Handed, Taken};

@@ -1,11 +1,13 @@
 -- The phases of the collector, and the one bus access that each names (the specification, "The collector": "Its record holds its phase,
 -- and each phase names one bus access").
-use Rattle.std.specs.Prelude.{ℕ, Bool, true, false, eqb, if◌then◌else◌}
+use Rattle.std.specs.Prelude.{ℕ, Bool, true, false, Result, Ok, Err, eqb, if◌then◌else◌}
+use Rattle.base.specs.declared.Refusal.{Refusal}
+use Rattle.base.specs.Checks.{refused_by}
 use Rattle.collector_settings.specs.declared.Settings.{Settings}
 use Rattle.collector_phases.specs.declared.Phase.{Phase}
 use Rattle.collector_phases.specs.declared.Phase.TheVariants.{Stop, Poll, Range, Clear, Low, High, Go, Look, Take, Drain, Stuck, Unknown}
 use Rattle.collector_phases.specs.declared.Access.{Access}
-use Rattle.collector_phases.specs.declared.Access.TheVariants.{WriteByte, ReadByte, ReadWord, NoAccess}
+use Rattle.collector_phases.specs.declared.Access.TheVariants.{WriteByte, ReadByte, ReadWord}
 use Rattle.collector_settings.specs.Settings.{clock_byte}
 
 -- the number that stands for a phase in the record
@@ -41,43 +43,43 @@ phase_of n =
 
 -- "Start: 9←0; read 8 until STS=0 ..; 11←range code; 7←02; 2←low; 3←high; 9←02, or 03 for the internal clock. .. Then look: read 7. ..
 -- Not full: one word read .. 512 word reads". A stuck collector names none (15), nor does an unknown phase (1).
-abbrev pub access_in : Phase → Settings → Access
-access_in Stop s = WriteByte 9 0
-access_in Poll s = ReadByte 8
-access_in Range s = WriteByte 11 s.range
-access_in Clear s = WriteByte 7 2
-access_in Low s = WriteByte 2 s.low
-access_in High s = WriteByte 3 s.high
-access_in Go s = WriteByte 9 (clock_byte s)
-access_in Look s = ReadByte 7
-access_in Take s = ReadWord 0
-access_in Drain s = ReadWord 0
-access_in Stuck s = NoAccess 15
-access_in Unknown s = NoAccess 1
+abbrev pub access_in : Phase → Settings → Result Access Refusal
+access_in Stop s = Ok (WriteByte 9 0)
+access_in Poll s = Ok (ReadByte 8)
+access_in Range s = Ok (WriteByte 11 s.range)
+access_in Clear s = Ok (WriteByte 7 2)
+access_in Low s = Ok (WriteByte 2 s.low)
+access_in High s = Ok (WriteByte 3 s.high)
+access_in Go s = Ok (WriteByte 9 (clock_byte s))
+access_in Look s = Ok (ReadByte 7)
+access_in Take s = Ok (ReadWord 0)
+access_in Drain s = Ok (ReadWord 0)
+access_in Stuck s = Err (refused_by 15)
+access_in Unknown s = Err (refused_by 1)
 
 -- ---- what an access is
-abbrev pub is_byte_read : Access → Bool
-is_byte_read (WriteByte o v) = false
-is_byte_read (ReadByte o) = true
-is_byte_read (ReadWord o) = false
-is_byte_read (NoAccess n) = false
+abbrev pub is_byte_read : Result Access Refusal → Bool
+is_byte_read (Ok (WriteByte o v)) = false
+is_byte_read (Ok (ReadByte o)) = true
+is_byte_read (Ok (ReadWord o)) = false
+is_byte_read (Err e) = false
 
-abbrev pub is_word_read : Access → Bool
-is_word_read (WriteByte o v) = false
-is_word_read (ReadByte o) = false
-is_word_read (ReadWord o) = true
-is_word_read (NoAccess n) = false
+abbrev pub is_word_read : Result Access Refusal → Bool
+is_word_read (Ok (WriteByte o v)) = false
+is_word_read (Ok (ReadByte o)) = false
+is_word_read (Ok (ReadWord o)) = true
+is_word_read (Err e) = false
 
 -- the byte read at the offset n
-abbrev pub reads : ℕ → Access → Bool
-reads n (WriteByte o v) = false
-reads n (ReadByte o) = eqb o n
-reads n (ReadWord o) = false
-reads n (NoAccess k) = false
+abbrev pub reads : ℕ → Result Access Refusal → Bool
+reads n (Ok (WriteByte o v)) = false
+reads n (Ok (ReadByte o)) = eqb o n
+reads n (Ok (ReadWord o)) = false
+reads n (Err e) = false
 
 -- none at all
-abbrev pub is_none : Access → Bool
-is_none (WriteByte o v) = false
-is_none (ReadByte o) = false
-is_none (ReadWord o) = false
-is_none (NoAccess n) = true
+abbrev pub is_none : Result Access Refusal → Bool
+is_none (Ok (WriteByte o v)) = false
+is_none (Ok (ReadByte o)) = false
+is_none (Ok (ReadWord o)) = false
+is_none (Err e) = true

@@ -7,6 +7,7 @@ ghost use Rattle.collector_phases.specs.Phases.{phase_of, access_in};
 ghost use Rattle.collector_phases.specs.Fit.{fit_in, fit};
 ghost use Rattle.collector_phases.specs.Accesses.{access_of};
 
+use base::Refusal;
 use collector_settings::Settings;
 
 // The record: the phase as a number (specs/Phases.antt), the channel of the next sample, the polls of the current start, and the word reads
@@ -39,13 +40,12 @@ pub enum Phase {
     Unknown,
 }
 
-// The one bus access of a phase, or the number by which none is named.
+// The one bus access of a phase.
 #[derive(Clone, Copy)]
 pub enum Access {
     WriteByte { offset: u8, value: u8 },
     ReadByte { offset: u8 },
     ReadWord { offset: u8 },
-    NoAccess(u8),
 }
 
 // The phase that a number of the record stands for.
@@ -69,41 +69,40 @@ pub fn phase_of(n: u8) -> Phase
     }
 }
 
-// The access that a phase names.
-pub fn access_in(p: Phase, s: Settings) -> Access
+// The access that a phase names. A stuck collector names none (15), nor does an unknown phase (1).
+pub fn access_in(p: Phase, s: Settings) -> Result<Access, Refusal>
     ensures { result ≡ access_in p s }
 {
     match p {
-        Phase::Stop => Access::WriteByte {
+        Phase::Stop => Ok(Access::WriteByte {
             offset: 9,
             value: 0,
-        },
-        Phase::Poll => Access::ReadByte { offset: 8 },
-        Phase::Range => Access::WriteByte {
+        }),
+        Phase::Poll => Ok(Access::ReadByte { offset: 8 }),
+        Phase::Range => Ok(Access::WriteByte {
             offset: 11,
             value: s.range,
-        },
-        Phase::Clear => Access::WriteByte {
+        }),
+        Phase::Clear => Ok(Access::WriteByte {
             offset: 7,
             value: 2,
-        },
-        Phase::Low => Access::WriteByte {
+        }),
+        Phase::Low => Ok(Access::WriteByte {
             offset: 2,
             value: s.low,
-        },
-        Phase::High => Access::WriteByte {
+        }),
+        Phase::High => Ok(Access::WriteByte {
             offset: 3,
             value: s.high,
-        },
-        Phase::Go => Access::WriteByte {
+        }),
+        Phase::Go => Ok(Access::WriteByte {
             offset: 9,
             value: collector_settings::clock_byte(s),
-        },
-        Phase::Look => Access::ReadByte { offset: 7 },
-        Phase::Take => Access::ReadWord { offset: 0 },
-        Phase::Drain => Access::ReadWord { offset: 0 },
-        Phase::Stuck => Access::NoAccess(15),
-        Phase::Unknown => Access::NoAccess(1),
+        }),
+        Phase::Look => Ok(Access::ReadByte { offset: 7 }),
+        Phase::Take | Phase::Drain => Ok(Access::ReadWord { offset: 0 }),
+        Phase::Stuck => Err(Refusal { number: 15 }),
+        Phase::Unknown => Err(Refusal { number: 1 }),
     }
 }
 
@@ -114,16 +113,9 @@ pub fn fits(p: Phase, c: Collector) -> bool
     match p {
         Phase::Stop => c.polls == 0,
         Phase::Poll => c.polls < c.settings.limit,
-        Phase::Range => true,
-        Phase::Clear => true,
-        Phase::Low => true,
-        Phase::High => true,
-        Phase::Go => true,
-        Phase::Look => true,
-        Phase::Take => true,
         Phase::Drain => (1 <= c.left) & (c.left <= 512),
-        Phase::Stuck => true,
         Phase::Unknown => false,
+        _ => true,
     }
 }
 
@@ -142,13 +134,12 @@ pub fn is_fit(c: Collector) -> bool
 
 // The access that the collector makes now, or the refusal 1 or 15.
 #[tactic(auto, unfolding(crate::specs::Accesses::access_of))]
-pub fn access_of(c: Collector) -> Access
+pub fn access_of(c: Collector) -> Result<Access, Refusal>
     ensures { result ≡ access_of c }
 {
-    let s = c.settings;
     if is_fit(c) {
-        access_in(phase_of(c.phase), s)
+        access_in(phase_of(c.phase), c.settings)
     } else {
-        Access::NoAccess(1)
+        Err(Refusal { number: 1 })
     }
 }

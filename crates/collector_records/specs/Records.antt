@@ -1,22 +1,22 @@
 -- The collector's record: as a start makes it, and as an answer changes it (the specification, "The collector").
-use Rattle.std.specs.Prelude.{ℕ, ◌+◌, eqb, if◌then◌else◌}
+use Rattle.std.specs.Prelude.{ℕ, ◌+◌, Result, Ok, Err, eqb, if◌then◌else◌}
+use Rattle.base.specs.declared.Refusal.{Refusal}
+use Rattle.base.specs.Checks.{refused_by}
 use Rattle.collector_settings.specs.declared.Settings.{Settings}
 use Rattle.collector_settings.specs.Settings.{start_refusal}
 use Rattle.collector_phases.specs.declared.Collector.{Collector}
 use Rattle.collector_phases.specs.declared.Phase.TheVariants.{Stop, Drain}
 use Rattle.collector_phases.specs.Phases.{phase_number}
-use Rattle.collector_records.specs.declared.Started.{Started}
-use Rattle.collector_records.specs.declared.Started.TheVariants.{Begun, NotBegun}
 
 -- ---- a start
 -- the first record of a start: 9←0 comes next, no poll is counted, the next sample is the low channel's
 abbrev pub first_record : Settings → Collector
 first_record s = record { settings = s; phase = phase_number Stop; next = s.low; polls = 0; left = 0 }
 
-abbrev pub started_by : ℕ → Settings → Started
-started_by n s = if eqb n 0 then Begun (first_record s) else NotBegun n
+abbrev pub started_by : ℕ → Settings → Result Collector Refusal
+started_by n s = if eqb n 0 then Ok (first_record s) else Err (refused_by n)
 
-unfoldable pub start_of : Settings → Started
+unfoldable pub start_of : Settings → Result Collector Refusal
 start_of s = started_by (start_refusal s) s
 
 -- ---- what an answer changes

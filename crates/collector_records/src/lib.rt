@@ -5,15 +5,9 @@
 ghost use Rattle.std.specs.Prelude.{◌≡◌, ◌<◌};
 ghost use Rattle.collector_records.specs.Records.{first_record, start_of, entered, poll_counted, draining, following, passed};
 
-use collector_phases::Collector;
+use base::Refusal;
+use collector_phases::{Collector, Phase};
 use collector_settings::Settings;
-
-// A start: the collector, or a refusal.
-#[derive(Clone, Copy)]
-pub enum Started {
-    Begun(Collector),
-    NotBegun(u8),
-}
 
 // The first record of a start.
 pub fn begin(s: Settings) -> Collector
@@ -21,7 +15,7 @@ pub fn begin(s: Settings) -> Collector
 {
     Collector {
         settings: s,
-        phase: 0,
+        phase: Phase::Stop as u8,
         next: s.low,
         polls: 0,
         left: 0,
@@ -30,14 +24,14 @@ pub fn begin(s: Settings) -> Collector
 
 // A collector for these settings, or the refusal 14, 11, 12 or 13.
 #[tactic(auto, unfolding(crate::specs::Records::start_of))]
-pub fn start(settings: Settings) -> Started
+pub fn start(settings: Settings) -> Result<Collector, Refusal>
     ensures { result ≡ start_of settings }
 {
-    let n = collector_settings::start_refusal(settings);
-    if n == 0 {
-        Started::Begun(begin(settings))
+    let number = collector_settings::start_refusal(settings);
+    if number == 0 {
+        Ok(begin(settings))
     } else {
-        Started::NotBegun(n)
+        Err(Refusal { number })
     }
 }
 
@@ -45,9 +39,7 @@ pub fn start(settings: Settings) -> Started
 pub fn enter(c: Collector, phase: u8) -> Collector
     ensures { result ≡ entered c phase }
 {
-    let mut d = c;
-    d.phase = phase;
-    d
+    Collector { phase, ..c }
 }
 
 // The record in another phase, with a poll counted.
@@ -55,10 +47,11 @@ pub fn count(c: Collector, phase: u8) -> Collector
     requires { c.polls < 65535 }
     ensures { result ≡ poll_counted c phase }
 {
-    let mut d = c;
-    d.phase = phase;
-    d.polls = c.polls + 1;
-    d
+    Collector {
+        phase,
+        polls: c.polls + 1,
+        ..c
+    }
 }
 
 // The channel after the next sample's.
@@ -78,19 +71,21 @@ pub fn pass(c: Collector, phase: u8, left: u16) -> Collector
     requires { c.next < 255 }
     ensures { result ≡ passed c phase left }
 {
-    let mut d = c;
-    d.phase = phase;
-    d.next = follow(c);
-    d.left = left;
-    d
+    Collector {
+        phase,
+        next: follow(c),
+        left,
+        ..c
+    }
 }
 
 // 512 word reads are left.
 pub fn drain(c: Collector) -> Collector
     ensures { result ≡ draining c }
 {
-    let mut d = c;
-    d.phase = 9;
-    d.left = 512;
-    d
+    Collector {
+        phase: Phase::Drain as u8,
+        left: 512,
+        ..c
+    }
 }

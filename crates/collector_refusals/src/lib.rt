@@ -1,10 +1,10 @@
 // Which answers are refused: specs/Refusals.antt.
 #![tactic(auto)]
 
-ghost use Rattle.std.specs.Prelude.{◌≡◌, [], ◌∷◌};
+ghost use Rattle.std.specs.Prelude.{◌≡◌, Ok, [], ◌∷◌};
 ghost use Rattle.base.specs.Checks.{◌refuses◌, refusal};
 ghost use Rattle.collector_phases.specs.declared.Access.TheVariants.{ReadByte};
-ghost use Rattle.collector_phases.specs.Phases.{is_none, reads};
+ghost use Rattle.collector_phases.specs.Phases.{reads};
 ghost use Rattle.collector_answers.specs.Answers.{is_nothing};
 ghost use Rattle.collector_answers.specs.declared.BusAnswer.TheVariants.{Number};
 ghost use Rattle.collector_refusals.specs.Refusals.{last_poll, read_answer_checks};
@@ -21,7 +21,7 @@ fn is_last_poll(c: Collector) -> bool
 
 // The number by which a number that came of a byte read is refused, or 0.
 fn number_refusal(offset: u8, c: Collector, a: u16) -> u8
-    ensures { result ≡ refusal (read_answer_checks (ReadByte offset) c (Number a)) }
+    ensures { result ≡ refusal (read_answer_checks (Ok (ReadByte offset)) c (Number a)) }
 {
     if collector_answers::is_wide(a) {
         17
@@ -34,7 +34,7 @@ fn number_refusal(offset: u8, c: Collector, a: u16) -> u8
 
 // The number by which the answer to a byte read is refused, or 0: the board's own refusal is not looked at here.
 fn byte_refusal(offset: u8, c: Collector, a: BusAnswer) -> u8
-    ensures { result ≡ refusal (read_answer_checks (ReadByte offset) c a) }
+    ensures { result ≡ refusal (read_answer_checks (Ok (ReadByte offset)) c a) }
 {
     match a {
         BusAnswer::Number(number) => number_refusal(offset, c, number),
@@ -48,38 +48,29 @@ fn word_refusal(a: BusAnswer) -> u8
     ensures { result ≡ refusal (is_nothing a refuses 20 ∷ []) }
 {
     match a {
-        BusAnswer::Number(_) => 0,
         BusAnswer::Nothing => 20,
-        BusAnswer::Refused(_) => 0,
+        BusAnswer::Number(_) | BusAnswer::Refused(_) => 0,
     }
 }
 
-// The number by which the answer to an access of a fit record is refused, or 0.
+// The number by which the answer to an access is refused, or 0.
 pub fn refusal_of(x: Access, c: Collector, a: BusAnswer) -> u8
-    ensures { result ≡ refusal (is_none x refuses 15 ∷ read_answer_checks x c a) }
+    ensures { result ≡ refusal (read_answer_checks (Ok x) c a) }
 {
     match x {
-        Access::WriteByte {
-            offset: _,
-            value: _,
-        } => 0,
+        Access::WriteByte { .. } => 0,
         Access::ReadByte { offset } => byte_refusal(offset, c, a),
-        Access::ReadWord { offset: _ } => word_refusal(a),
-        Access::NoAccess(_) => 15,
+        Access::ReadWord { .. } => word_refusal(a),
     }
 }
 
 // Whether the access is a poll.
 pub fn is_poll(x: Access) -> bool
-    ensures { result ≡ reads 8 x }
+    ensures { result ≡ reads 8 (Ok x) }
 {
     match x {
-        Access::WriteByte {
-            offset: _,
-            value: _,
-        } => false,
+        Access::WriteByte { .. } => false,
         Access::ReadByte { offset } => offset == 8,
-        Access::ReadWord { offset: _ } => false,
-        Access::NoAccess(_) => false,
+        Access::ReadWord { .. } => false,
     }
 }

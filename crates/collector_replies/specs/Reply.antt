@@ -1,7 +1,8 @@
 -- What the collector does with what came of its access (the specification, "The collector", and refusals 1, 15 and 17; request M-100: "The
 -- collector can now be told "nothing" in a take or a drain .. If it is told so all the same, it keeps its record", refusal 20).
-use Rattle.std.specs.Prelude.{ℕ, ◌&&◌, eqb, if◌then◌else◌}
+use Rattle.std.specs.Prelude.{ℕ, ◌&&◌, Result, eqb, if◌then◌else◌}
 use Rattle.base.specs.Checks.{refusal}
+use Rattle.base.specs.declared.Refusal.{Refusal}
 use Rattle.collector_phases.specs.declared.Collector.{Collector}
 use Rattle.collector_phases.specs.declared.Phase.{Phase}
 use Rattle.collector_phases.specs.declared.Phase.TheVariants.{Stop, Poll, Range, Clear, Low, High, Go, Look, Take, Drain, Stuck, Unknown}
@@ -53,7 +54,7 @@ answered p c bus.Nothing = after_write p c
 answered p c (bus.Refused n) = reports c (Refused n)
 
 -- what stays after a refusal: at the last poll the collector is stuck, and that poll counts; else it is unchanged
-abbrev pub staying : ℕ → Access → Collector → Collector
+abbrev pub staying : ℕ → Result Access Refusal → Collector → Collector
 staying n x c = if eqb n 15 && reads 8 x then poll_counted c (phase_number Stuck) else c
 
 abbrev pub decided : ℕ → Phase → Collector → BusAnswer → Taken

@@ -1,31 +1,36 @@
 // What an answer leads to: specs/Reply.antt. The bounds that some functions require hold of every fit record.
 #![tactic(auto)]
 
-ghost use Rattle.std.specs.Prelude.{◌≡◌, ◌<◌, true};
+ghost use Rattle.std.specs.Prelude.{◌≡◌, ◌<◌, true, Ok};
 ghost use Rattle.collector_phases.specs.Fit.{fit};
+ghost use Rattle.collector_phases.specs.Phases.{phase_number};
+ghost use Rattle.collector_records.specs.Records.{entered};
+ghost use Rattle.collector_steps.specs.Reads.{reports};
 ghost use Rattle.collector_replies.specs.Reply.{after_write, after_number, answered, staying, replied_in, replied};
 
 use collector_answers::BusAnswer;
 use collector_phases::{Access, Collector, Phase};
 use collector_steps::{Handed, Taken};
 
+// The record in its next phase, and what is handed over.
+fn proceed(c: Collector, next: Phase, handed: Handed) -> Taken
+    ensures { result ≡ reports (entered c (phase_number next)) handed }
+{
+    collector_steps::report(collector_records::enter(c, next as u8), handed)
+}
+
 // After a write, whose answer isn't looked at.
 fn after_write(p: Phase, c: Collector) -> Taken
     ensures { result ≡ after_write p c }
 {
     match p {
-        Phase::Stop => collector_steps::report(collector_records::enter(c, 1), Handed::Nothing),
-        Phase::Poll => collector_steps::report(c, Handed::Nothing),
-        Phase::Range => collector_steps::report(collector_records::enter(c, 3), Handed::Nothing),
-        Phase::Clear => collector_steps::report(collector_records::enter(c, 4), Handed::Nothing),
-        Phase::Low => collector_steps::report(collector_records::enter(c, 5), Handed::Nothing),
-        Phase::High => collector_steps::report(collector_records::enter(c, 6), Handed::Nothing),
-        Phase::Go => collector_steps::report(collector_records::enter(c, 7), Handed::StartEnd),
-        Phase::Look => collector_steps::report(c, Handed::Nothing),
-        Phase::Take => collector_steps::report(c, Handed::Nothing),
-        Phase::Drain => collector_steps::report(c, Handed::Nothing),
-        Phase::Stuck => collector_steps::report(c, Handed::Nothing),
-        Phase::Unknown => collector_steps::report(c, Handed::Nothing),
+        Phase::Stop => proceed(c, Phase::Poll, Handed::Nothing),
+        Phase::Range => proceed(c, Phase::Clear, Handed::Nothing),
+        Phase::Clear => proceed(c, Phase::Low, Handed::Nothing),
+        Phase::Low => proceed(c, Phase::High, Handed::Nothing),
+        Phase::High => proceed(c, Phase::Go, Handed::Nothing),
+        Phase::Go => proceed(c, Phase::Look, Handed::StartEnd),
+        _ => collector_steps::report(c, Handed::Nothing),
     }
 }
 
@@ -35,18 +40,11 @@ fn after_number(p: Phase, c: Collector, a: u16) -> Taken
     ensures { result ≡ after_number p c a }
 {
     match p {
-        Phase::Stop => after_write(p, c),
         Phase::Poll => collector_steps::report(collector_steps::answer_poll(c, a), Handed::Nothing),
-        Phase::Range => after_write(p, c),
-        Phase::Clear => after_write(p, c),
-        Phase::Low => after_write(p, c),
-        Phase::High => after_write(p, c),
-        Phase::Go => after_write(p, c),
         Phase::Look => collector_steps::report(collector_steps::answer_look(c, a), Handed::Nothing),
         Phase::Take => collector_steps::answer_take(c, a),
         Phase::Drain => collector_steps::answer_drain(c, a),
-        Phase::Stuck => after_write(p, c),
-        Phase::Unknown => after_write(p, c),
+        _ => after_write(p, c),
     }
 }
 
@@ -65,23 +63,24 @@ fn advance(p: Phase, c: Collector, a: BusAnswer) -> Taken
 // What stays after a refusal: stuck at the last poll, else unchanged.
 fn stay(n: u8, x: Access, c: Collector) -> Collector
     requires { c.polls < 65535 }
-    ensures { result ≡ staying n x c }
+    ensures { result ≡ staying n (Ok x) c }
 {
     if (n == 15) & collector_refusals::is_poll(x) {
-        collector_records::count(c, 10)
+        collector_records::count(c, Phase::Stuck as u8)
     } else {
         c
     }
 }
 
-// The answer to a fit record.
+// The answer to a fit record, which names no access once it is stuck: 15.
 #[tactic(auto, using(crate::specs::Joined::room))]
 fn reply(p: Phase, c: Collector, a: BusAnswer) -> Taken
     requires { fit c ≡ true }
     ensures { result ≡ replied_in p c a }
 {
-    let s = c.settings;
-    let x = collector_phases::access_in(p, s);
+    let Ok(x) = collector_phases::access_in(p, c.settings) else {
+        return collector_steps::report(c, Handed::Refused(15));
+    };
     let n = collector_refusals::refusal_of(x, c, a);
     if n == 0 {
         advance(p, c, a)

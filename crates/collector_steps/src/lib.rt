@@ -4,7 +4,7 @@
 ghost use Rattle.std.specs.Prelude.{◌≡◌, ◌<◌};
 ghost use Rattle.collector_steps.specs.Reads.{reports, polled, looked, took, drained};
 
-use collector_phases::Collector;
+use collector_phases::{Collector, Phase};
 use samples::Sample;
 
 // What is handed over: nothing, the end of a start, a sample, the last sample of a drain with the gap that it marks, or a refusal.
@@ -42,9 +42,9 @@ pub fn answer_poll(c: Collector, a: u16) -> Collector
     ensures { result ≡ polled c a }
 {
     if collector_answers::is_converting(a) {
-        collector_records::count(c, 1)
+        collector_records::count(c, Phase::Poll as u8)
     } else {
-        collector_records::count(c, 2)
+        collector_records::count(c, Phase::Range as u8)
     }
 }
 
@@ -57,7 +57,7 @@ pub fn answer_look(c: Collector, a: u16) -> Collector
     } else if collector_answers::is_full(a) {
         collector_records::drain(c)
     } else {
-        collector_records::enter(c, 8)
+        collector_records::enter(c, Phase::Take as u8)
     }
 }
 
@@ -75,7 +75,7 @@ pub fn answer_drain(c: Collector, a: u16) -> Taken
         }
     } else {
         report(
-            collector_records::pass(c, 9, c.left - 1),
+            collector_records::pass(c, Phase::Drain as u8, c.left - 1),
             Handed::OneSample(y),
         )
     }
@@ -87,5 +87,8 @@ pub fn answer_take(c: Collector, a: u16) -> Taken
     ensures { result ≡ took c a }
 {
     let y = collector_answers::sample_of(c.next, a);
-    report(collector_records::pass(c, 7, c.left), Handed::OneSample(y))
+    report(
+        collector_records::pass(c, Phase::Look as u8, c.left),
+        Handed::OneSample(y),
+    )
 }

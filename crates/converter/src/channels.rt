@@ -33,11 +33,12 @@ pub fn next_channel(low: u8, high: u8, selected: u8) -> u8
 pub fn start(c: Converter) -> Converter
     ensures { result ≡ started c }
 {
-    let mut next = c;
-    next.channel = c.selected;
-    next.selected = next_channel(c.low, c.high, c.selected);
-    next.converting = 1;
-    next
+    Converter {
+        channel: c.selected,
+        selected: next_channel(c.low, c.high, c.selected),
+        converting: 1,
+        ..c
+    }
 }
 
 // A trigger, where there is one: it starts a conversion unless one runs.
@@ -83,38 +84,42 @@ pub fn is_last(c: Converter) -> bool
 pub fn write_low(c: Converter, byte: u8) -> Converter
     ensures { result ≡ written_low c byte }
 {
-    let mut next = c;
-    next.low = byte % 32;
-    next.selected = byte % 32;
-    next
+    Converter {
+        low: byte % 32,
+        selected: byte % 32,
+        ..c
+    }
 }
 
 // A write of 3: the high channel; low becomes the selected one.
 pub fn write_high(c: Converter, byte: u8) -> Converter
     ensures { result ≡ written_high c byte }
 {
-    let mut next = c;
-    next.high = byte % 32;
-    next.selected = c.low;
-    next
+    Converter {
+        high: byte % 32,
+        selected: c.low,
+        ..c
+    }
 }
 
 // A write of 7: SCANEN.
 pub fn write_scanen(c: Converter, byte: u8) -> Converter
     ensures { result ≡ written_scanen c byte }
 {
-    let mut next = c;
-    next.scanen = byte / 4 % 2;
-    next
+    Converter {
+        scanen: byte / 4 % 2,
+        ..c
+    }
 }
 
 // A write of 9: CLKEN.
 pub fn write_clken(c: Converter, byte: u8) -> Converter
     ensures { result ≡ written_clken c byte }
 {
-    let mut next = c;
-    next.clken = byte / 2 % 2;
-    next
+    Converter {
+        clken: byte / 2 % 2,
+        ..c
+    }
 }
 
 // STS and the selected channel as they stand in the byte read at 8.

@@ -6,20 +6,12 @@ ghost use Rattle.converter.specs.Codes.{sample_of, code_of};
 pub fn sample(code: i16) -> u16
     ensures { result ≡ sample_of code }
 {
-    if code < 0 {
-        65535 - (!code as u16)
-    } else {
-        code as u16
-    }
+    code.cast_unsigned()
 }
 
 // The signed code of 16 bits.
 pub fn code(sample: u16) -> i16
     ensures { result ≡ code_of sample }
 {
-    if sample < 32768 {
-        sample as i16
-    } else {
-        !((65535 - sample) as i16)
-    }
+    sample.cast_signed()
 }

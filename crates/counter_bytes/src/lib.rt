@@ -48,9 +48,8 @@ pub fn piece_of(f: Format, s: Bus, byte: u8) -> Piece
         Format::LeastByte => Piece::Whole(byte as u16),
         Format::MostByte => Piece::Whole((byte as u16) * 256),
         Format::TwoBytes => {
-            let halfwritten = s.halfwritten == 1;
-            if halfwritten {
-                Piece::Whole((s.first as u16) + (byte as u16) * 256)
+            if s.halfwritten == 1 {
+                Piece::Whole(base::join_bytes(s.first, byte))
             } else {
                 Piece::First(byte)
             }
@@ -61,18 +60,17 @@ pub fn piece_of(f: Format, s: Bus, byte: u8) -> Piece
 pub fn after_write(s: Bus, q: Piece) -> Bus
     ensures { result ≡ bytes_after s q }
 {
-    let mut t = s;
     match q {
-        Piece::First(b) => {
-            t.first = b;
-            t.halfwritten = 1;
-            t
-        }
-        Piece::Whole(_) => {
-            t.first = 0;
-            t.halfwritten = 0;
-            t
-        }
+        Piece::First(b) => Bus {
+            first: b,
+            halfwritten: 1,
+            ..s
+        },
+        Piece::Whole(_) => Bus {
+            first: 0,
+            halfwritten: 0,
+            ..s
+        },
     }
 }
 
@@ -80,19 +78,17 @@ pub fn after_write(s: Bus, q: Piece) -> Bus
 pub fn shown_count(s: Bus, v: u16) -> u16
     ensures { result ≡ shown s v }
 {
-    let latched = s.latched == 1;
-    if latched { s.latch } else { v }
+    if s.latched == 1 { s.latch } else { v }
 }
 
 pub fn byte_shown(f: Format, half: bool, v: u16) -> u8
     ensures { result ≡ byte_shown f half v }
 {
-    let least = (v % 256) as u8;
-    let most = (v / 256) as u8;
+    let [least, most] = v.to_le_bytes();
     match f {
         Format::LeastByte => least,
         Format::MostByte => most,
-        Format::TwoBytes => { if half { most } else { least } }
+        Format::TwoBytes => if half { most } else { least },
     }
 }
 
@@ -109,9 +105,7 @@ fn read_done(s: Bus) -> Bus
 fn read_half(s: Bus) -> Bus
     ensures { result ≡ read_half s }
 {
-    let mut t = s;
-    t.halfread = 1;
-    t
+    Bus { halfread: 1, ..s }
 }
 
 // After a read: the latch is let go with the last byte.
@@ -122,8 +116,11 @@ pub fn after_read(f: Format, s: Bus) -> Bus
         Format::LeastByte => read_done(s),
         Format::MostByte => read_done(s),
         Format::TwoBytes => {
-            let halfread = s.halfread == 1;
-            if halfread { read_done(s) } else { read_half(s) }
+            if s.halfread == 1 {
+                read_done(s)
+            } else {
+                read_half(s)
+            }
         }
     }
 }
@@ -132,14 +129,14 @@ pub fn after_read(f: Format, s: Bus) -> Bus
 pub fn take_latch(s: Bus, v: u16) -> Bus
     ensures { result ≡ latch_taken s v }
 {
-    let mut t = s;
-    let latched = s.latched == 1;
-    if latched {
+    if s.latched == 1 {
         s
     } else {
-        t.latch = v;
-        t.latched = 1;
-        t
+        Bus {
+            latch: v,
+            latched: 1,
+            ..s
+        }
     }
 }
 

@@ -26,18 +26,18 @@ pub struct Count {
 fn one_less(v: u16) -> u16
     ensures { result ≡ down v }
 {
-    std::num::wrapping_sub_u16(v, 1)
+    v.wrapping_sub(1)
 }
 
 fn load_count(k: Count, out: bool) -> Count
     ensures { result ≡ load k out }
 {
     Count {
-        register: k.register,
         element: k.register,
         out: out as u8,
         waiting: 0,
         loaded: 1,
+        ..k
     }
 }
 
@@ -45,10 +45,11 @@ fn count_terminal(k: Count) -> Count
     ensures { result ≡ counted_terminal k }
 {
     let v = one_less(k.element);
-    let mut n = k;
-    n.element = v;
-    n.out = ((k.out == 1) | (v == 0)) as u8;
-    n
+    Count {
+        element: v,
+        out: ((k.out == 1) | (v == 0)) as u8,
+        ..k
+    }
 }
 
 fn count_rate(k: Count) -> Count
@@ -58,13 +59,15 @@ fn count_rate(k: Count) -> Count
         load_count(k, tables::load_out(Mode::RateGenerator))
     } else {
         let v = one_less(k.element);
-        let mut n = k;
-        n.element = v;
-        n.out = (!(v == 1)) as u8;
-        n
+        Count {
+            element: v,
+            out: (v != 1) as u8,
+            ..k
+        }
     }
 }
 
+#[tactic(auto, unfolding(crate::specs::Element::counted_by))]
 fn count_by(m: Mode, k: Count) -> Count
     ensures { result ≡ counted_by m k }
 {
@@ -93,15 +96,17 @@ pub fn take_piece(m: Mode, k: Count, q: Piece) -> Count
 {
     let out = (k.out == 1) & !tables::byte_stops(m);
     let waiting = tables::loads_at_once(m) | (k.loaded != 1);
-    let mut n = k;
-    n.out = out as u8;
     match q {
-        Piece::First(_) => n,
-        Piece::Whole(w) => {
-            n.register = w;
-            n.waiting = waiting as u8;
-            n
-        }
+        Piece::First(_) => Count {
+            out: out as u8,
+            ..k
+        },
+        Piece::Whole(w) => Count {
+            register: w,
+            out: out as u8,
+            waiting: waiting as u8,
+            ..k
+        },
     }
 }
 
@@ -110,9 +115,10 @@ pub fn see_gate(m: Mode, was: bool, is: bool, k: Count) -> Count
     ensures { result ≡ gate_seen m was is k }
 {
     let out = (k.out == 1) | tables::gate_raises(m) & (was & !is);
-    let mut n = k;
-    n.out = out as u8;
-    n
+    Count {
+        out: out as u8,
+        ..k
+    }
 }
 
 fn loads_on_pulse(m: Mode, trigger: bool, k: Count) -> bool

@@ -1,14 +1,13 @@
 -- The control word. Data sheet (manual, chapter 19): "Control Word Format", D7 to D0 = SC1 SC0 RW1 RW0 M2 M1 M0 BCD, and "Counter Latch
 -- Command". SC, which selects the counter, is read by the three counters together.
-use Rattle.std.specs.Prelude.{Bool, true, false, ℕ, ◌%◌, eqb, if◌then◌else◌}
+use Rattle.std.specs.Prelude.{Bool, true, false, ℕ, ◌%◌, eqb, if◌then◌else◌, Option, Some, None}
 use Rattle.base.specs.Fields.{field, bit}
 use Rattle.counter_modes.specs.declared.Mode.TheVariants.{TerminalCount, RateGenerator}
 use Rattle.counter_modes.specs.declared.Format.{Format}
 use Rattle.counter_modes.specs.declared.Format.TheVariants.{LeastByte, MostByte, TwoBytes}
 use Rattle.counter_modes.specs.declared.ControlCommand.{ControlCommand}
 use Rattle.counter_modes.specs.declared.ControlCommand.TheVariants.{LatchCount, Program, NotModelled}
-use Rattle.counter_modes.specs.declared.Setup.{Setup}
-use Rattle.counter_modes.specs.declared.Setup.TheVariants.{Unprogrammed, Programmed}
+use Rattle.counter_modes.specs.declared.Mode.{Mode}
 
 -- RW - Read/Write: 01 least significant byte only, 10 most significant byte only, 11 least significant byte first, then most
 abbrev pub format_of : ℕ → Format
@@ -39,10 +38,10 @@ word_refused w = refuses_command (command w)
 
 -- A counter keeps the six bits of its control word as written, and 0 before the first. What they set up: no control word that programs
 -- a counter has RW = 00
-abbrev pub setup_by : ControlCommand → Setup
-setup_by LatchCount = Unprogrammed
-setup_by (Program f m) = Programmed f m
-setup_by NotModelled = Unprogrammed
+abbrev pub setup_by : ControlCommand → Option (Format × Mode)
+setup_by LatchCount = None
+setup_by (Program f m) = Some (f, m)
+setup_by NotModelled = None
 
-unfoldable pub setup_of : ℕ → Setup
+unfoldable pub setup_of : ℕ → Option (Format × Mode)
 setup_of w = setup_by (command w)

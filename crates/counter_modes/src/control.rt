@@ -2,17 +2,15 @@
 ghost use Rattle.std.specs.Prelude.{◌≡◌};
 ghost use Rattle.counter_modes.specs.Control.{format_of, mode_chosen, command, setup_of, word_refused};
 
-use super::{ControlCommand, Format, Mode, Setup};
+use super::{ControlCommand, Format, Mode};
 
 fn format_of(rw: u8) -> Format
     ensures { result ≡ format_of rw }
 {
-    if rw == 1 {
-        Format::LeastByte
-    } else if rw == 2 {
-        Format::MostByte
-    } else {
-        Format::TwoBytes
+    match rw {
+        1 => Format::LeastByte,
+        2 => Format::MostByte,
+        _ => Format::TwoBytes,
     }
 }
 
@@ -29,30 +27,32 @@ fn choose_mode(f: Format, m: u8) -> ControlCommand
 }
 
 // What a control word asks for, SC apart.
+#[tactic(auto, unfolding(crate::specs::Control::command))]
 pub fn command_of(word: u8) -> ControlCommand
     ensures { result ≡ command word }
 {
     if word / 16 % 4 == 0 {
         ControlCommand::LatchCount
-    } else if word / 1 % 2 == 1 {
+    } else if word % 2 == 1 {
         ControlCommand::NotModelled
     } else {
         choose_mode(format_of(word / 16 % 4), word / 2 % 8)
     }
 }
 
-// What a counter's six control bits set up.
-pub fn setup_of(control: u8) -> Setup
+// What a counter's six control bits set up: `None` before the first control word that programs it.
+#[tactic(auto, unfolding(crate::specs::Control::setup_of))]
+pub fn setup_of(control: u8) -> Option<(Format, Mode)>
     ensures { result ≡ setup_of control }
 {
     match command_of(control) {
-        ControlCommand::LatchCount => Setup::Unprogrammed,
-        ControlCommand::Program(f, m) => Setup::Programmed(f, m),
-        ControlCommand::NotModelled => Setup::Unprogrammed,
+        ControlCommand::Program(f, m) => Some((f, m)),
+        ControlCommand::LatchCount | ControlCommand::NotModelled => None,
     }
 }
 
 // Whether a control word, whatever counter it selects, is refused.
+#[tactic(auto, unfolding(crate::specs::Control::word_refused))]
 pub fn refuses_word(word: u8) -> bool
     ensures { result ≡ word_refused word }
 {

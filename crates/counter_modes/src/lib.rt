@@ -25,9 +25,3 @@ pub enum ControlCommand {
     Program(Format, Mode),
     NotModelled,
 }
-
-#[derive(Clone, Copy)]
-pub enum Setup {
-    Unprogrammed,
-    Programmed(Format, Mode),
-}

@@ -1,15 +1,16 @@
 -- The control bits that set up mode 0 and those that set up mode 2, as the code lists them, and that no others do. Assumes nothing.
-use Rattle.std.proofs.Common.{◌≡◌, ℕ, zero, suc, ◌<◌, Bool, true, false, not, ◌&&◌, ◌||◌, eqb, ltb, List, [], ◌∷◌, refl, ⊎_elim, arith, ltb-true, ne_eqb}
-use Rattle.std.proofs.Common.{eqb-true}
+use Rattle.std.specs.Prelude.{Option, Some, None}
+use Rattle.std.proofs.Common.{◌≡◌, ℕ, Bool, true, false, not, ◌||◌, eqb, ltb, List, [], ◌∷◌, refl, ⊎_elim, ltb-true, ne_eqb}
+use Rattle.std.specs.Option.{is_some}
 use mathlib.Core.Path.{subst⁻¹}
-use borrow.Author.Tests.{eqb-false}
 use mir.Val.{has_key}
 use types.Run.{OneOf, hit}
-use Rattle.base.specs.Laws.{never, both}
+use Rattle.std.proofs.lemmas.Bool.{agree_below, agree_below_at, false_from_ne_true}
+use Rattle.base.specs.Laws.{never}
 use Rattle.base.specs.Tests.{all}
 use Rattle.counter_modes.specs.Control.{command, setup_of}
-use Rattle.counter_modes.specs.declared.Setup.{Setup}
-use Rattle.counter_modes.specs.declared.Setup.TheVariants.{Unprogrammed, Programmed}
+use Rattle.counter_modes.specs.declared.Format.{Format}
+use Rattle.counter_modes.specs.declared.Mode.{Mode}
 use Rattle.counter_one.specs.Working.{control_tests, control_works}
 
 abbrev mode0 : List ℕ
@@ -36,43 +37,22 @@ pub in_mode_2 : (w r o : ℕ) → OneOf mode2 w → not (eqb r 1) ≡ control_wo
 unfolding control_works setup_of command
 in_mode_2 w r o = of_key (λ (x : ℕ). not (eqb r 1) ≡ control_works x r o) mode2 w (refl, (refl, (refl, (refl, (refl, (refl, tt))))))
 
--- ---- a test that holds of each number below n
-abbrev below : (ℕ → Bool) → ℕ → Bool
-below f zero = true
-below f (suc n) = below f n && f n
-
-at : (f : ℕ → Bool) (n : ℕ) → below f n ≡ true → (w : ℕ) → w < n → f w ≡ true
-at f zero h w l = absurd (omega arith)
-at f (suc n) h w l = by (at f n (both (below f n) (f n) h).0 w) (eqb w n) refl
-  where
-    by : (w < n → f w ≡ true) → (b : Bool) → eqb w n ≡ b → f w ≡ true
-    by less true e = subst⁻¹ (λ (x : ℕ). f x ≡ true) (eqb-true w n e) (both (below f n) (f n) h).1
-    by less false e = let d : w ≡ n → ⊥ = eqb-false w n e in less (omega arith)
-
 -- ---- six bits that are not listed set up nothing
-abbrev programs : Setup → Bool
-programs Unprogrammed = false
-programs (Programmed f m) = true
-
 abbrev listed : ℕ → Bool
-listed w = (has_key mode0 w || has_key mode2 w) || not (programs (setup_of w))
+listed w = (has_key mode0 w || has_key mode2 w) || not (is_some (setup_of w))
 
-all_listed : below listed 64 ≡ true
+all_listed : agree_below listed (λ w. true) 64 ≡ true
 unfolding setup_of command
 all_listed = refl
 
 no_key : (ks : List ℕ) (w : ℕ) → (OneOf ks w → ⊥) → has_key ks w ≡ false
-no_key ks w n = by (has_key ks w) refl
-  where
-    by : (b : Bool) → has_key ks w ≡ b → b ≡ false
-    by true e = absurd (n (hit ks w (rw e tt)))
-    by false e = refl
+no_key ks w n = false_from_ne_true (has_key ks w) (λ e. n (hit ks w (rw e tt)))
 
 pub not_listed : (w r o : ℕ) → (w ≡ 0 → ⊥) → (OneOf mode0 w → ⊥) → (OneOf mode2 w → ⊥) → false ≡ control_works w r o
 unfolding control_works
 not_listed w r o z a b = go (setup_of w) (ltb w 64) refl refl
   where
-    go : (s : Setup) (t : Bool) → setup_of w ≡ s → ltb w 64 ≡ t → false ≡ all (control_tests s w r o)
-    go Unprogrammed t e l = rw (ne_eqb w 0 z)
-    go (Programmed f m) true e l = never (rw (no_key mode0 w a, no_key mode2 w b, e) at (at listed 64 all_listed w (ltb-true w 64 l)))
-    go (Programmed f m) false e l = rw l
+    go : (s : Option (Format × Mode)) (t : Bool) → setup_of w ≡ s → ltb w 64 ≡ t → false ≡ all (control_tests s w r o)
+    go None t e l = rw (ne_eqb w 0 z)
+    go (Some (f, m)) true e l = never (rw (no_key mode0 w a, no_key mode2 w b, e) at (agree_below_at listed (λ w. true) 64 w all_listed (ltb-true w 64 l)))
+    go (Some (f, m)) false e l = rw l

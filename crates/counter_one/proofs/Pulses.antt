@@ -1,7 +1,9 @@
 -- A CLK pulse of a working counter that is programmed: the mode is bit 2 of its control bits, and by the outcomes of the code's tests this is the
 -- counter after the pulse. Assumes nothing.
+use Rattle.std.specs.Prelude.{Option}
 use Rattle.std.proofs.Common.{◌≡◌, ℕ, Bool, true, false, not, ◌&&◌, ◌||◌, eqb, sym, refl, ap, ◌∙◌, ap₂, arith, eq-eqb, ne_eqb, eqb-true}
 use mir.Val.{bool_byte}
+use Rattle.std.proofs.lemmas.Bool.{and_right, or_parts}
 use borrow.Author.Tests.{eqb-false, not-true, not-false}
 use Rattle.base.specs.Flags.{on, flag}
 use Rattle.base.specs.Laws.{never, both}
@@ -9,7 +11,7 @@ use Rattle.counter_modes.specs.Bits.{mode_by, rate}
 use Rattle.counter_modes.specs.Modes.{load_out}
 use Rattle.counter_modes.specs.declared.Mode.{Mode}
 use Rattle.counter_modes.specs.declared.Mode.TheVariants.{TerminalCount, RateGenerator}
-use Rattle.counter_modes.specs.declared.Setup.{Setup}
+use Rattle.counter_modes.specs.declared.Format.{Format}
 use Rattle.counter_element.specs.Element.{down, load, counted, counted_by, pulse_loads, pulse_counts, pulse_taken}
 use Rattle.counter_element.specs.declared.Count.{Count}
 use Rattle.counter_one.specs.declared.Counter.{Counter}
@@ -26,11 +28,11 @@ taken c gate r = pulse_taken (mode_by r) gate (on c.trigger) (on c.bus.halfwritt
 
 in_mode : (c : Counter) (gate : Bool) → WorkingCounter c → (c.control ≡ 0 → ⊥) → pulsed c gate ≡ with_count c (taken c gate (rate c.control))
 unfolding pulsed
-in_mode c gate w z = sets_mode (λ (s : Setup). pulsed_as s c gate ≡ with_count c (taken c gate (rate c.control))) c w z (λ f. refl)
+in_mode c gate w z = sets_mode (λ (s : Option (Format × Mode)). pulsed_as s c gate ≡ with_count c (taken c gate (rate c.control))) c w z (λ f. refl)
 
 pub unprogrammed : (c : Counter) (gate : Bool) → c.control ≡ 0 → c ≡ pulsed c gate
 unfolding pulsed
-unprogrammed c gate h = sym (ap (λ (s : Setup). pulsed_as s c gate) (sets_nothing c.control h))
+unprogrammed c gate h = sym (ap (λ (s : Option (Format × Mode)). pulsed_as s c gate) (sets_nothing c.control h))
 
 -- ---- the count after a pulse that loads, one that counts, and one that does neither
 module _ (m : Mode) (gate trigger half : Bool) (k : Count) where
@@ -59,14 +61,6 @@ byte-stops true true = refl
 byte-stops true false = refl
 byte-stops false g = refl
 
-and_false : (b : Bool) → b && false ≡ false
-and_false true = refl
-and_false false = refl
-
-or_left : (a b : Bool) → a || b ≡ false → a ≡ false
-or_left true b h = h
-or_left false b h = refl
-
 -- ---- a count that counts, as the code stores it
 abbrev with_flags : ℕ → ℕ → ℕ → ℕ → ℕ → Count
 with_flags r e o a l = record { register = r; element = e; out = o; waiting = a; loaded = l }
@@ -75,9 +69,8 @@ byte_flag : (b : Bool) → bool_byte b ≡ flag b
 byte_flag true = refl
 byte_flag false = refl
 
-counted-at : (k : Count) (v : ℕ) (f : ℕ → Bool) → v ≡ down k.element
-    → with_flags k.register v (bool_byte (f v)) k.waiting k.loaded ≡ counted k (down k.element) (f (down k.element))
-counted-at k v f q = ap₂ (λ (x y : ℕ). with_flags k.register x y k.waiting k.loaded) q (byte_flag (f v) ∙ ap (λ (x : ℕ). flag (f x)) q)
+counted_so : (k : Count) (o : Bool) → with_flags k.register (down k.element) (bool_byte o) k.waiting k.loaded ≡ counted k (down k.element) o
+counted_so k o = ap (λ (x : ℕ). with_flags k.register (down k.element) x k.waiting k.loaded) (byte_flag o)
 
 -- ---- the counter after the pulse, by the outcomes of the code's tests
 abbrev load_test : Counter → Bool → Bool
@@ -115,14 +108,14 @@ module _ (c : Counter) (gate : Bool) (w : WorkingCounter c) (z : c.control ≡ 0
   in_rate e h g =
       pulse_counts_lem RateGenerator gate (on c.trigger) (on c.bus.halfwritten) c.count (rw e at h)
       (counts (on c.count.loaded) gate (on c.bus.halfwritten) false (not-false (on c.count.loaded && gate) g)
-      (and_false (on c.bus.halfwritten)))
+      (and_right (on c.bus.halfwritten) false refl))
 
   pub after_reload : rate c.control ≡ true → load_test c (rate c.control) ≡ false → count_test c gate ≡ false → c.count.element ≡ 1
       → with_count c (with_flags c.count.register c.count.register 1 c.count.waiting c.count.loaded) ≡ pulsed c gate
   unfolding counted_by
   after_reload e h g o =
       let n : c.count.waiting ≡ 1 → ⊥ =
-      eqb-false _ _ (or_left (on c.count.waiting) (on c.count.loaded && (rate c.control && on c.trigger)) h) in
+      eqb-false _ _ (or_parts (on c.count.waiting) (on c.count.loaded && (rate c.control && on c.trigger)) h).0 in
       let a : c.count.waiting ≡ 0 = omega (arith, w.flags.count.waiting) in
       let b : c.count.loaded ≡ 1 = eqb-true _ _ (both (on c.count.loaded) gate (not-false (on c.count.loaded && gate) g)).0 in
       after true e
@@ -130,13 +123,14 @@ module _ (c : Counter) (gate : Bool) (w : WorkingCounter c) (z : c.control ≡ 0
       ∙ rw (eq-eqb c.count.element 1 o)
       (ap₂ (λ (x y : ℕ). with_flags c.count.register c.count.register 1 x y) (sym a) (sym b)))
 
-  pub after-rate : (v : ℕ) → v ≡ down c.count.element → rate c.control ≡ true → load_test c (rate c.control) ≡ false → count_test c gate ≡ false
-      → (c.count.element ≡ 1 → ⊥)
-      → with_count c (with_flags c.count.register v (bool_byte (not (eqb v 1))) c.count.waiting c.count.loaded) ≡ pulsed c gate
+  pub after-rate : rate c.control ≡ true → load_test c (rate c.control) ≡ false → count_test c gate ≡ false → (c.count.element ≡ 1 → ⊥)
+      → with_count c
+      (with_flags c.count.register (down c.count.element) (bool_byte (not (eqb (down c.count.element) 1))) c.count.waiting c.count.loaded)
+      ≡ pulsed c gate
   unfolding counted_by
-  after-rate v q e h g o =
+  after-rate e h g o =
       after true e
-      (in_rate e h g ∙ rw (ne_eqb c.count.element 1 o) (sym (counted-at c.count v (λ (x : ℕ). not (eqb x 1)) q)))
+      (in_rate e h g ∙ rw (ne_eqb c.count.element 1 o) (sym (counted_so c.count (not (eqb (down c.count.element) 1)))))
 
   -- mode 0
   pub after-half : rate c.control ≡ false → load_test c (rate c.control) ≡ false → c.bus.halfwritten ≡ 1 → with_count c c.count ≡ pulsed c gate
@@ -145,13 +139,14 @@ module _ (c : Counter) (gate : Bool) (w : WorkingCounter c) (z : c.control ≡ 0
       (pulse_rests TerminalCount gate (on c.trigger) (on c.bus.halfwritten) c.count (rw e at h)
       (rw (eq-eqb c.bus.halfwritten 1 o) (byte-stops (on c.count.loaded) gate)))
 
-  pub after_terminal : (v : ℕ) → v ≡ down c.count.element → rate c.control ≡ false → load_test c (rate c.control) ≡ false → count_test c gate ≡ false
-      → (c.bus.halfwritten ≡ 1 → ⊥)
-      → with_count c (with_flags c.count.register v (bool_byte (on c.count.out || eqb v 0)) c.count.waiting c.count.loaded) ≡ pulsed c gate
+  pub after_terminal : rate c.control ≡ false → load_test c (rate c.control) ≡ false → count_test c gate ≡ false → (c.bus.halfwritten ≡ 1 → ⊥)
+      → with_count c
+      (with_flags c.count.register (down c.count.element) (bool_byte (on c.count.out || eqb (down c.count.element) 0)) c.count.waiting c.count.loaded)
+      ≡ pulsed c gate
   unfolding counted_by
-  after_terminal v q e h g o =
+  after_terminal e h g o =
       after false e
       (pulse_counts_lem TerminalCount gate (on c.trigger) (on c.bus.halfwritten) c.count (rw e at h)
       (counts (on c.count.loaded) gate (on c.bus.halfwritten) true (not-false (on c.count.loaded && gate) g)
       (rw (ne_eqb c.bus.halfwritten 1 o)))
-      ∙ sym (counted-at c.count v (λ (x : ℕ). on c.count.out || eqb x 0) q))
+      ∙ sym (counted_so c.count (on c.count.out || eqb (down c.count.element) 0)))

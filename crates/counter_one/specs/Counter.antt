@@ -1,6 +1,6 @@
 -- One counter: what each event makes of it. Data sheet (manual, chapter 19); the specification, "Conversions, edges and requests":
 -- "Counters follow the data sheet ...". An unprogrammed counter: "OUT high, reads 0, latch without effect", and a count for it is refused.
-use Rattle.std.specs.Prelude.{ℕ, ◌%◌, Bool, true, false, not, ◌&&◌, ◌||◌, ◌==◌, if◌then◌else◌}
+use Rattle.std.specs.Prelude.{ℕ, ◌%◌, Bool, true, false, not, ◌&&◌, ◌||◌, ◌==◌, if◌then◌else◌, Option, Some, None}
 use Rattle.base.specs.Flags.{on, flag}
 use Rattle.counter_modes.specs.Modes.{trigger_loads, from_two}
 use Rattle.counter_modes.specs.Control.{command, setup_of}
@@ -9,8 +9,7 @@ use Rattle.counter_bytes.specs.Bytes.{no_bytes, piece_of, bytes_after, shown, by
 use Rattle.counter_modes.specs.declared.Mode.{Mode}
 use Rattle.counter_modes.specs.declared.ControlCommand.{ControlCommand}
 use Rattle.counter_modes.specs.declared.ControlCommand.TheVariants.{LatchCount, Program, NotModelled}
-use Rattle.counter_modes.specs.declared.Setup.{Setup}
-use Rattle.counter_modes.specs.declared.Setup.TheVariants.{Unprogrammed, Programmed}
+use Rattle.counter_modes.specs.declared.Format.{Format}
 use Rattle.counter_bytes.specs.declared.Piece.{Piece}
 use Rattle.counter_bytes.specs.declared.Piece.TheVariants.{First, Whole}
 use Rattle.counter_one.specs.declared.Counter.{Counter}
@@ -30,9 +29,9 @@ abbrev pub programmed : ℕ → Mode → Counter
 programmed w m = record { control = w % 64; trigger = 0; count = first_count m; bus = no_bytes }
 
 -- ---- the latch command
-abbrev pub latched_as : Setup → Counter → Counter
-latched_as Unprogrammed c = c
-latched_as (Programmed f m) c = record {
+abbrev pub latched_as : Option (Format × Mode) → Counter → Counter
+latched_as None c = c
+latched_as (Some (f, m)) c = record {
   control = c.control;
   trigger = c.trigger;
   count = c.count;
@@ -49,9 +48,9 @@ unfoldable pub commanded : Counter → ℕ → Counter
 commanded c w = commanded_by (command w) c w
 
 -- ---- one CLK pulse at a GATE level. The flip-flop "is reset immediately after it is sampled"
-abbrev pub pulsed_as : Setup → Counter → Bool → Counter
-pulsed_as Unprogrammed c gate = c
-pulsed_as (Programmed f m) c gate = record {
+abbrev pub pulsed_as : Option (Format × Mode) → Counter → Bool → Counter
+pulsed_as None c gate = c
+pulsed_as (Some (f, m)) c gate = record {
   control = c.control;
   trigger = 0;
   count = pulse_taken m gate (on c.trigger) (on c.bus.halfwritten) c.count;
@@ -62,9 +61,9 @@ unfoldable pub pulsed : Counter → Bool → Counter
 pulsed c gate = pulsed_as (setup_of c.control) c gate
 
 -- ---- GATE goes from was to is. "a rising edge of Gate (trigger) sets an edge-sensitive flip-flop in the Counter"
-abbrev pub gate_moved_as : Setup → Counter → Bool → Bool → Counter
-gate_moved_as Unprogrammed c was is = c
-gate_moved_as (Programmed f m) c was is = record {
+abbrev pub gate_moved_as : Option (Format × Mode) → Counter → Bool → Bool → Counter
+gate_moved_as None c was is = c
+gate_moved_as (Some (f, m)) c was is = record {
   control = c.control;
   trigger = flag (on c.trigger || trigger_loads m && (not was && is));
   count = gate_seen m was is c.count;
@@ -75,9 +74,9 @@ unfoldable pub gate_moved : Counter → Bool → Bool → Counter
 gate_moved c was is = gate_moved_as (setup_of c.control) c was is
 
 -- ---- a read: its byte, and the counter after it
-abbrev pub counter_read_as : Setup → Counter → CounterRead
-counter_read_as Unprogrammed c = record { byte = 0; counter = c }
-counter_read_as (Programmed f m) c = record {
+abbrev pub counter_read_as : Option (Format × Mode) → Counter → CounterRead
+counter_read_as None c = record { byte = 0; counter = c }
+counter_read_as (Some (f, m)) c = record {
   byte = byte_shown f (on c.bus.halfread) (shown c.bus c.count.element);
   counter = record { control = c.control; trigger = c.trigger; count = c.count; bus = bytes_read f c.bus };
 }
@@ -90,9 +89,9 @@ abbrev pub piece_refused : Mode → Piece → Bool
 piece_refused m (First b) = false
 piece_refused m (Whole n) = from_two m && n == 1
 
-abbrev pub byte_refused_as : Setup → Counter → ℕ → Bool
-byte_refused_as Unprogrammed c b = true
-byte_refused_as (Programmed f m) c b = piece_refused m (piece_of f c.bus b)
+abbrev pub byte_refused_as : Option (Format × Mode) → Counter → ℕ → Bool
+byte_refused_as None c b = true
+byte_refused_as (Some (f, m)) c b = piece_refused m (piece_of f c.bus b)
 
 unfoldable pub byte_refused : Counter → ℕ → Bool
 byte_refused c b = byte_refused_as (setup_of c.control) c b
@@ -108,9 +107,9 @@ piece_written m c q = record {
 abbrev pub offered : Mode → Counter → Piece → Counter
 offered m c q = if piece_refused m q then c else piece_written m c q
 
-abbrev pub byte_written_as : Setup → Counter → ℕ → Counter
-byte_written_as Unprogrammed c b = c
-byte_written_as (Programmed f m) c b = offered m c (piece_of f c.bus b)
+abbrev pub byte_written_as : Option (Format × Mode) → Counter → ℕ → Counter
+byte_written_as None c b = c
+byte_written_as (Some (f, m)) c b = offered m c (piece_of f c.bus b)
 
 -- a refused byte leaves the counter
 unfoldable pub byte_written : Counter → ℕ → Counter

@@ -1,5 +1,5 @@
 -- Each event of a counter keeps a working counter working, and a fresh one is. The specification, "What is delivered".
-use Rattle.std.specs.Prelude.{◌≡◌, ℕ, ◌/◌, ◌%◌, Bool, true, false, ◌==◌, ◌≢◌, refl}
+use Rattle.std.specs.Prelude.{◌≡◌, ℕ, ◌/◌, ◌%◌, Bool, true, false, ◌==◌, ◌≢◌, refl, Option, Some}
 use Rattle.std.proofs.Common.{ap, sym, ◌∙◌, arith}
 use Rattle.std.proofs.Math.Path.{subst⁻¹}
 use Rattle.std.proofs.lemmas.Bool.{eqb-false}
@@ -20,18 +20,16 @@ use Rattle.counter_modes.specs.declared.Mode.{Mode}
 use Rattle.counter_modes.specs.declared.Format.{Format}
 use Rattle.counter_modes.specs.declared.ControlCommand.{ControlCommand}
 use Rattle.counter_modes.specs.declared.ControlCommand.TheVariants.{LatchCount, Program, NotModelled}
-use Rattle.counter_modes.specs.declared.Setup.{Setup}
-use Rattle.counter_modes.specs.declared.Setup.TheVariants.{Programmed}
 use Rattle.counter_bytes.specs.declared.Piece.{Piece}
 use Rattle.counter_bytes.specs.declared.Piece.TheVariants.{First, Whole}
 use Rattle.counter_element.specs.declared.Count.{Count}
 use Rattle.counter_one.specs.declared.Counter.{Counter}
 
 -- what keeps the six control bits is judged by the same set-up
-same_setup : (c d : Counter) {s : Setup} → setup_of c.control ≡ s → d.control ≡ c.control → Flags d → Facts s d → WorkingCounter d
-same_setup c d e f k w = record { flags = k; facts = subst⁻¹ (λ (x : Setup). Facts x d) (ap setup_of f ∙ e) w }
+same_setup : (c d : Counter) {s : Option (Format × Mode)} → setup_of c.control ≡ s → d.control ≡ c.control → Flags d → Facts s d → WorkingCounter d
+same_setup c d e f k w = record { flags = k; facts = subst⁻¹ (λ (x : Option (Format × Mode)). Facts x d) (ap setup_of f ∙ e) w }
 
-facts_at : (c : Counter) {s : Setup} → setup_of c.control ≡ s → WorkingCounter c → Facts s c
+facts_at : (c : Counter) {s : Option (Format × Mode)} → setup_of c.control ≡ s → WorkingCounter c → Facts s c
 facts_at c e w = rw e at w.facts
 
 -- ---- the fresh counter, and a control word
@@ -53,7 +51,7 @@ command_mod : (w : ℕ) → command (w % 64) ≡ command w
 unfolding command
 command_mod w = simp (rw_mod, m_mod, bcd_mod)
 
-pub setup_programmed : (w : ℕ) (f : Format) (m : Mode) → command w ≡ Program f m → setup_of (w % 64) ≡ Programmed f m
+pub setup_programmed : (w : ℕ) (f : Format) (m : Mode) → command w ≡ Program f m → setup_of (w % 64) ≡ Some (f, m)
 unfolding setup_of
 setup_programmed w f m e = rw (command_mod w, e)
 
@@ -61,13 +59,13 @@ programmed-works : (w : ℕ) (f : Format) (m : Mode) → command w ≡ Program f
 programmed-works w f m e =
     record {
       flags = record { trigger = omega arith; count = first-works m; bus = none-works };
-      facts = subst⁻¹ (λ (x : Setup). Facts x (programmed w m)) (setup_programmed w f m e) (omega arith, λ t o. omega arith);
+      facts = subst⁻¹ (λ (x : Option (Format × Mode)). Facts x (programmed w m)) (setup_programmed w f m e) (omega arith, λ t o. omega arith);
     }
 
 latched-works : (c : Counter) → WorkingCounter c → WorkingCounter (latched_as (setup_of c.control) c)
 latched-works c w =
     by_setup (λ s. WorkingCounter (latched_as s c)) (setup_of c.control) (λ e. w)
-    (λ f m e. same_setup c (latched_as (Programmed f m) c) e refl
+    (λ f m e. same_setup c (latched_as (Some (f, m)) c) e refl
     (record { trigger = w.flags.trigger; count = w.flags.count; bus = latch-works _ _ w.flags.bus })
     (facts_at c e w))
 
@@ -86,7 +84,7 @@ unfolding pulsed
 pulsed-works c gate w =
     by_setup (λ s. WorkingCounter (pulsed_as s c gate)) (setup_of c.control) (λ e. w)
     (λ f m e. let a = facts_at c e w in
-    same_setup c (pulsed_as (Programmed f m) c gate) e refl
+    same_setup c (pulsed_as (Some (f, m)) c gate) e refl
     (record {
       trigger = omega arith;
       count = pulse_works m gate (on c.trigger) (on c.bus.halfwritten) c.count w.flags.count;
@@ -98,7 +96,7 @@ pub gate-moved_works : (c : Counter) (was is : Bool) → WorkingCounter c → Wo
 unfolding gate_moved
 gate-moved_works c was is w =
     by_setup (λ s. WorkingCounter (gate_moved_as s c was is)) (setup_of c.control) (λ e. w)
-    (λ f m e. same_setup c (gate_moved_as (Programmed f m) c was is) e refl
+    (λ f m e. same_setup c (gate_moved_as (Some (f, m)) c was is) e refl
     (record { trigger = search flag-le; count = gate-works m was is c.count w.flags.count; bus = w.flags.bus })
     (facts_at c e w))
 
@@ -106,7 +104,7 @@ pub counter-read_works : (c : Counter) → WorkingCounter c → WorkingCounter (
 unfolding counter_read
 counter-read_works c w =
     by_setup (λ s. WorkingCounter (counter_read_as s c).counter) (setup_of c.control) (λ e. w)
-    (λ f m e. same_setup c (counter_read_as (Programmed f m) c).counter e refl
+    (λ f m e. same_setup c (counter_read_as (Some (f, m)) c).counter e refl
     (record { trigger = w.flags.trigger; count = w.flags.count; bus = read-works f c.bus w.flags.bus })
     (facts_at c e w))
 

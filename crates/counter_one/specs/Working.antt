@@ -1,6 +1,6 @@
 -- A working board's counter. The specification, "What is delivered": "Every register, channel, port, counter and divider is within its
 -- width or range ...; no mode 2 counter has 1 to load, and an unprogrammed counter's OUT is high."
-use Rattle.std.specs.Prelude.{◌≡◌, ℕ, ◌<◌, ◌≤◌, Bool, true, false, not, ◌&&◌, List, [], ◌∷◌, ◌==◌, ◌≢◌, nat_le, nat_lt, refl}
+use Rattle.std.specs.Prelude.{◌≡◌, ℕ, ◌<◌, ◌≤◌, Bool, true, false, not, ◌&&◌, List, [], ◌∷◌, ◌==◌, ◌≢◌, nat_le, nat_lt, refl, Option, Some, None}
 use Rattle.std.proofs.Common.{sym, eqb-true, eq-eqb, ne_eqb, ltb-true, lt-ltb, leb-true, le-leb}
 use Rattle.std.proofs.lemmas.Bool.{eqb-false}
 use Rattle.base.specs.Flags.{on}
@@ -8,16 +8,16 @@ use Rattle.base.specs.Laws.{both}
 use Rattle.base.specs.Tests.{all, each, every}
 use Rattle.counter_modes.specs.Modes.{from_two}
 use Rattle.counter_modes.specs.Control.{setup_of}
-use Rattle.counter_modes.specs.declared.Setup.{Setup}
-use Rattle.counter_modes.specs.declared.Setup.TheVariants.{Unprogrammed, Programmed}
+use Rattle.counter_modes.specs.declared.Format.{Format}
+use Rattle.counter_modes.specs.declared.Mode.{Mode}
 use Rattle.counter_element.specs.Working.{WorkingCount, is_working_count, count_of, count-to}
 use Rattle.counter_bytes.specs.Working.{WorkingBus, is_working_bus, bus_of, bus-to}
 use Rattle.counter_one.specs.declared.Counter.{Counter}
 
 -- the facts, by what the six control bits set up: 0 or a control word that programs a counter
-abbrev pub Facts : Setup → Counter → Type 0
-Facts Unprogrammed c = (c.control ≡ 0) × (on c.count.out ≡ true)
-Facts (Programmed f m) c = (c.control < 64) × (from_two m ≡ true → c.count.register ≢ 1)
+abbrev pub Facts : Option (Format × Mode) → Counter → Type 0
+Facts None c = (c.control ≡ 0) × (on c.count.out ≡ true)
+Facts (Some (f, m)) c = (c.control < 64) × (from_two m ≡ true → c.count.register ≢ 1)
 
 -- every flag is 0 or 1
 pub record Flags (c : Counter) : Type 0 where
@@ -37,9 +37,9 @@ abbrev pub flags_work : Counter → Bool
 flags_work c = all (flag_tests c)
 
 -- the tests of the facts
-abbrev pub control_tests : Setup → ℕ → ℕ → ℕ → List Bool
-control_tests Unprogrammed control register out = (control == 0) ∷ on out ∷ []
-control_tests (Programmed f m) control register out = nat_lt control 64 ∷ not (from_two m && register == 1) ∷ []
+abbrev pub control_tests : Option (Format × Mode) → ℕ → ℕ → ℕ → List Bool
+control_tests None control register out = (control == 0) ∷ on out ∷ []
+control_tests (Some (f, m)) control register out = nat_lt control 64 ∷ not (from_two m && register == 1) ∷ []
 
 unfoldable pub control_works : ℕ → ℕ → ℕ → Bool
 control_works control register out = all (control_tests (setup_of control) control register out)
@@ -68,19 +68,19 @@ flags_of c h =
 flags-to : (c : Counter) → Flags c → flags_work c ≡ true
 flags-to c w = every (flag_tests c) (le-leb _ _ w.trigger, (count-to _ w.count, (bus-to _ w.bus, tt)))
 
-abbrev tests_of : Setup → Counter → List Bool
+abbrev tests_of : Option (Format × Mode) → Counter → List Bool
 tests_of s c = control_tests s c.control c.count.register c.count.out
 
-facts_of : (s : Setup) (c : Counter) → all (tests_of s c) ≡ true → Facts s c
-facts_of Unprogrammed c h = let e = each (tests_of Unprogrammed c) h in (eqb-true _ _ e.0, e.1.0)
-facts_of (Programmed f m) c h =
-    let e = each (tests_of (Programmed f m) c) h in
+facts_of : (s : Option (Format × Mode)) (c : Counter) → all (tests_of s c) ≡ true → Facts s c
+facts_of None c h = let e = each (tests_of None c) h in (eqb-true _ _ e.0, e.1.0)
+facts_of (Some (f, m)) c h =
+    let e = each (tests_of (Some (f, m)) c) h in
     (ltb-true _ _ e.0, λ t. eqb-false _ _ (not_both (from_two m) (c.count.register == 1) e.1.0 t))
 
-facts-to : (s : Setup) (c : Counter) → Facts s c → all (tests_of s c) ≡ true
-facts-to Unprogrammed c w = every (tests_of Unprogrammed c) (eq-eqb _ _ w.0, (w.1, tt))
-facts-to (Programmed f m) c w =
-    every (tests_of (Programmed f m) c)
+facts-to : (s : Option (Format × Mode)) (c : Counter) → Facts s c → all (tests_of s c) ≡ true
+facts-to None c w = every (tests_of None c) (eq-eqb _ _ w.0, (w.1, tt))
+facts-to (Some (f, m)) c w =
+    every (tests_of (Some (f, m)) c)
     (lt-ltb _ _ w.0, (both_not (from_two m) (c.count.register == 1) (λ t. ne_eqb _ _ (w.1 t)), tt))
 
 pub counter_of_lem : (c : Counter) → is_working_counter c ≡ true → WorkingCounter c

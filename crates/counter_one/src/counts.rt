@@ -4,7 +4,7 @@ ghost use Rattle.counter_one.specs.Counter.{piece_refused, byte_refused, piece_w
 
 use crate::Counter;
 use counter_bytes::Piece;
-use counter_modes::{Mode, Setup, control, tables};
+use counter_modes::{Mode, control, tables};
 
 fn refuses_piece(m: Mode, q: Piece) -> bool
     ensures { result ≡ piece_refused m q }
@@ -16,27 +16,24 @@ fn refuses_piece(m: Mode, q: Piece) -> bool
 }
 
 // Whether a byte of a count is refused.
+#[tactic(auto, unfolding(crate::specs::Counter::byte_refused))]
 pub fn refuses_byte(c: Counter, byte: u8) -> bool
     ensures { result ≡ byte_refused c byte }
 {
     match control::setup_of(c.control) {
-        Setup::Unprogrammed => true,
-        Setup::Programmed(f, m) => {
-            let s = c.bus;
-            refuses_piece(m, counter_bytes::piece_of(f, s, byte))
-        }
+        None => true,
+        Some((f, m)) => refuses_piece(m, counter_bytes::piece_of(f, c.bus, byte)),
     }
 }
 
 fn write_piece(m: Mode, c: Counter, q: Piece) -> Counter
     ensures { result ≡ piece_written m c q }
 {
-    let k = c.count;
-    let s = c.bus;
-    let mut d = c;
-    d.count = counter_element::take_piece(m, k, q);
-    d.bus = counter_bytes::after_write(s, q);
-    d
+    Counter {
+        count: counter_element::take_piece(m, c.count, q),
+        bus: counter_bytes::after_write(c.bus, q),
+        ..c
+    }
 }
 
 fn offer(m: Mode, c: Counter, q: Piece) -> Counter
@@ -50,14 +47,12 @@ fn offer(m: Mode, c: Counter, q: Piece) -> Counter
 }
 
 // A written byte of a count. A refused one leaves the counter.
+#[tactic(auto, unfolding(crate::specs::Counter::byte_written))]
 pub fn write_byte(c: Counter, byte: u8) -> Counter
     ensures { result ≡ byte_written c byte }
 {
     match control::setup_of(c.control) {
-        Setup::Unprogrammed => c,
-        Setup::Programmed(f, m) => {
-            let s = c.bus;
-            offer(m, c, counter_bytes::piece_of(f, s, byte))
-        }
+        None => c,
+        Some((f, m)) => offer(m, c, counter_bytes::piece_of(f, c.bus, byte)),
     }
 }

@@ -4,7 +4,7 @@
 
 use counter_bytes::Bus;
 use counter_element::Count;
-use counter_modes::{ControlCommand, Mode, Setup, control, tables};
+use counter_modes::{ControlCommand, Mode, control, tables};
 
 pub mod counts; // a byte of a count that is written
 
@@ -64,17 +64,16 @@ fn latch(c: Counter) -> Counter
     ensures { result ≡ latched_as (setup_of c.control) c }
 {
     match control::setup_of(c.control) {
-        Setup::Unprogrammed => c,
-        Setup::Programmed(_, _) => {
-            let s = c.bus;
-            let mut d = c;
-            d.bus = counter_bytes::take_latch(s, c.count.element);
-            d
-        }
+        None => c,
+        Some(_) => Counter {
+            bus: counter_bytes::take_latch(c.bus, c.count.element),
+            ..c
+        },
     }
 }
 
 // A control word for this counter: it latches the count or programs the counter. A refused one leaves the counter.
+#[tactic(auto, unfolding(crate::specs::Counter::commanded))]
 pub fn write_word(c: Counter, word: u8) -> Counter
     ensures { result ≡ commanded c word }
 {
@@ -86,24 +85,23 @@ pub fn write_word(c: Counter, word: u8) -> Counter
 }
 
 // One CLK pulse at a GATE level.
+#[tactic(auto, unfolding(crate::specs::Counter::pulsed))]
 pub fn pulse(c: Counter, gate: bool) -> Counter
     ensures { result ≡ pulsed c gate }
 {
     match control::setup_of(c.control) {
-        Setup::Unprogrammed => c,
-        Setup::Programmed(_, m) => {
-            let k = c.count;
-            let mut d = c;
-            d.count = counter_element::take_pulse(
+        None => c,
+        Some((_, m)) => Counter {
+            trigger: 0,
+            count: counter_element::take_pulse(
                 m,
                 gate,
                 c.trigger == 1,
                 c.bus.halfwritten == 1,
-                k,
-            );
-            d.trigger = 0;
-            d
-        }
+                c.count,
+            ),
+            ..c
+        },
     }
 }
 
@@ -120,8 +118,7 @@ pub fn pulse_working(c: Counter, gate: bool) -> Counter
     d.trigger = 0;
     if (c.count.waiting == 1) | (c.count.loaded == 1) & (rate & (c.trigger == 1)) {
         d.count.element = c.count.register;
-        let out = rate as u8;
-        d.count.out = out;
+        d.count.out = rate as u8;
         d.count.waiting = 0;
         d.count.loaded = 1;
         d
@@ -133,60 +130,57 @@ pub fn pulse_working(c: Counter, gate: bool) -> Counter
             d.count.out = 1;
             d
         } else {
-            let v = std::num::wrapping_sub_u16(c.count.element, 1);
-            let out = (v != 1) as u8;
+            let v = c.count.element.wrapping_sub(1);
             d.count.element = v;
-            d.count.out = out;
+            d.count.out = (v != 1) as u8;
             d
         }
     } else if c.bus.halfwritten == 1 {
         d
     } else {
-        let v = std::num::wrapping_sub_u16(c.count.element, 1);
-        let out = ((c.count.out == 1) | (v == 0)) as u8;
+        let v = c.count.element.wrapping_sub(1);
         d.count.element = v;
-        d.count.out = out;
+        d.count.out = ((c.count.out == 1) | (v == 0)) as u8;
         d
     }
 }
 
 // GATE goes from `was` to `is`.
+#[tactic(auto, unfolding(crate::specs::Counter::gate_moved))]
 pub fn move_gate(c: Counter, was: bool, is: bool) -> Counter
     ensures { result ≡ gate_moved c was is }
 {
     match control::setup_of(c.control) {
-        Setup::Unprogrammed => c,
-        Setup::Programmed(_, m) => {
-            let k = c.count;
+        None => c,
+        Some((_, m)) => {
             let trigger = (c.trigger == 1) | tables::trigger_loads(m) & (!was & is);
-            let mut d = c;
-            d.count = counter_element::see_gate(m, was, is, k);
-            d.trigger = trigger as u8;
-            d
+            Counter {
+                trigger: trigger as u8,
+                count: counter_element::see_gate(m, was, is, c.count),
+                ..c
+            }
         }
     }
 }
 
 // A read of the counter.
+#[tactic(auto, unfolding(crate::specs::Counter::counter_read))]
 pub fn read(c: Counter) -> CounterRead
     ensures { result ≡ counter_read c }
 {
     match control::setup_of(c.control) {
-        Setup::Unprogrammed => CounterRead {
+        None => CounterRead {
             byte: 0,
             counter: c,
         },
-        Setup::Programmed(f, _) => {
-            let s = c.bus;
-            let mut d = c;
-            d.bus = counter_bytes::after_read(f, s);
+        Some((f, _)) => {
+            let shown = counter_bytes::shown_count(c.bus, c.count.element);
             CounterRead {
-                byte: counter_bytes::byte_shown(
-                    f,
-                    s.halfread == 1,
-                    counter_bytes::shown_count(s, c.count.element),
-                ),
-                counter: d,
+                byte: counter_bytes::byte_shown(f, c.bus.halfread == 1, shown),
+                counter: Counter {
+                    bus: counter_bytes::after_read(f, c.bus),
+                    ..c
+                },
             }
         }
     }
@@ -196,9 +190,7 @@ pub fn read(c: Counter) -> CounterRead
 pub fn flags_work(c: Counter) -> bool
     ensures { result ≡ flags_work c }
 {
-    let k = c.count;
-    let s = c.bus;
-    (c.trigger <= 1) & counter_element::is_working(k) & counter_bytes::is_working(s)
+    (c.trigger <= 1) & counter_element::is_working(c.count) & counter_bytes::is_working(c.bus)
 }
 
 // Whether the six control bits are 0 or set up mode 0 or 2, and suit the count register and OUT.

@@ -2,13 +2,12 @@
 -- Mode 0 over any number of CLK pulses. Data sheet (manual, chapter 19), "Mode 0: Interrupt on Terminal Count". What is said holds of every counter that is
 -- programmed in mode 0, with any count, flags and bytes before: nothing else is asked of it. A count n of bytes is a number of 16 bits (SignalLaws,
 -- whole_word).
-use Rattle.std.specs.Prelude.{◌≡◌, ℕ, ◌+◌, ◌*◌, ◌<◌, Bool, true, false, leb, List, ◌∷◌, nat_le, nat_lt, refl}
+use Rattle.std.specs.Prelude.{◌≡◌, ℕ, ◌+◌, ◌*◌, ◌<◌, Bool, true, false, leb, List, ◌∷◌, nat_le, nat_lt, refl, Some}
 use Rattle.std.proofs.Common.{arith, sym, ap, ◌∙◌}
 use Rattle.base.specs.Flags.{on}
 use Rattle.counter_modes.specs.Control.{setup_of}
 use Rattle.counter_modes.specs.declared.Mode.TheVariants.{TerminalCount}
 use Rattle.counter_modes.specs.declared.Format.{Format}
-use Rattle.counter_modes.specs.declared.Setup.TheVariants.{Programmed}
 use Rattle.counter_bytes.specs.Bytes.{piece_of, bytes_after}
 use Rattle.counter_bytes.specs.declared.Bus.{Bus}
 use Rattle.counter_bytes.specs.declared.Piece.TheVariants.{First, Whole}
@@ -21,7 +20,7 @@ use Rattle.counter_pulses.proofs.SignalLaws.{beyond}
 use Rattle.counter_pulses.specs.ModeZeroLaws.{whole-written, first-written}
 use Rattle.counter_pulses.proofs.ModeZeroLaws.{out-loaded}
 
-module _ (k : Counter) {f : Format} (at : setup_of k.control ≡ Programmed f TerminalCount) where
+module _ (k : Counter) {f : Format} (at : setup_of k.control ≡ Some (f, TerminalCount)) where
   -- The byte b makes the count n whole, and any signals follow. "the initial count will be loaded on the next CLK pulse", also "while GATE = 0"; "GATE = 1
   -- enables counting; GATE = 0 disables counting. GATE has no effect on OUT": OUT is low until N of the CLK pulses after that one had GATE high. "OUT then
   -- goes high and remains high until a new count or a new Mode 0 Control Word is written".
@@ -48,12 +47,12 @@ module _ (k : Counter) {f : Format} (at : setup_of k.control ≡ Programmed f Te
 
 -- "Writing the second byte allows the new count to be loaded on the next CLK pulse. ... Again OUT does not go high until N + 1 CLK pulses after the new count
 -- of N is written", whatever signals came between the two bytes.
-pub two_bytes : (k : Counter) {f : Format} → setup_of k.control ≡ Programmed f TerminalCount → (b c : ℕ) → piece_of f k.bus b ≡ First b
+pub two_bytes : (k : Counter) {f : Format} → setup_of k.control ≡ Some (f, TerminalCount) → (b c : ℕ) → piece_of f k.bus b ≡ First b
     → b + c * 256 < 65536 → (g h : Bool) (x y : List Signal)
     → on (after_signals (byte_written (after_signals (byte_written k b) g x) c) h y).count.out ≡ nat_le (initial_count (b + c * 256)) (high_pulses_later h y)
 two_bytes k {f} at b c q l g h x y =
     let d = after_signals (byte_written k b) g x in
     let w = first-written k at b q in
-    let i : setup_of d.control ≡ Programmed f TerminalCount = ap setup_of (control-after (byte_written k b) g x ∙ ap (λ (e : Counter). e.control) w) ∙ at in
+    let i : setup_of d.control ≡ Some (f, TerminalCount) = ap setup_of (control-after (byte_written k b) g x ∙ ap (λ (e : Counter). e.control) w) ∙ at in
     let s : d.bus ≡ bytes_after k.bus (First b) = bus-after (byte_written k b) g x ∙ ap (λ (e : Counter). e.bus) w in
     out-after_signals d i c (b + c * 256) (ap (λ (e : Bus). piece_of f e c) s ∙ second-whole f k.bus b c q) l h y

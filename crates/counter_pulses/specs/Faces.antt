@@ -1,6 +1,6 @@
 -- A counter that has no trigger and no count to load: CLK pulses at one GATE level change its count and OUT alone, its face, and what they go by, its
 -- pace, stays as it is. Data sheet (manual, chapter 19), modes 0 and 2.
-use Rattle.std.specs.Prelude.{◌≡◌, ℕ, Bool, true, false, not, ◌||◌, ◌==◌, refl, if◌then◌else◌}
+use Rattle.std.specs.Prelude.{◌≡◌, ℕ, Bool, true, false, not, ◌||◌, ◌==◌, refl, if◌then◌else◌, Option, Some, None}
 use Rattle.std.proofs.Common.{sym, ap, ap₂, ◌∙◌}
 use borrow.Author.Tests.{eqb-true}
 use Rattle.base.specs.Flags.{on, flag}
@@ -9,8 +9,7 @@ use Rattle.counter_modes.specs.Bits.{mode_by, rate, mode_bit}
 use Rattle.counter_modes.specs.Control.{setup_of}
 use Rattle.counter_modes.specs.declared.Mode.TheVariants.{TerminalCount, RateGenerator}
 use Rattle.counter_modes.specs.declared.Format.{Format}
-use Rattle.counter_modes.specs.declared.Setup.{Setup}
-use Rattle.counter_modes.specs.declared.Setup.TheVariants.{Unprogrammed, Programmed}
+use Rattle.counter_modes.specs.declared.Mode.{Mode}
 use Rattle.counter_element.specs.Element.{down, load, counted, counted_by, pulse_counts, pulse_taken}
 use Rattle.counter_element.specs.declared.Count.{Count}
 use Rattle.counter_one.specs.Counter.{pulsed_as, pulsed}
@@ -92,14 +91,15 @@ face_pulsed k g w s f = go (setup_of k.control) refl
     z = clear k.count.waiting w.flags.count.waiting (calm (on k.trigger) (on k.count.waiting) s).1
 
     by : (m : Format) (r : Bool)
-        → pulsed_as (Programmed m (mode_by r)) (faced k f) g ≡ faced k (counted_as (counts (Programmed m (mode_by r)) k g) r k.count.register f)
+        → pulsed_as (Some (m, mode_by r)) (faced k f) g ≡ faced k (counted_as (counts (Some (m, mode_by r)) k g) r k.count.register f)
     by m r =
-        let n = counts (Programmed m (mode_by r)) k g in
-        ap (λ (x : ℕ). pulsed_as (Programmed m (mode_by r)) (triggered x f) g) t
+        let n = counts (Some (m, mode_by r)) k g in
+        ap (λ (x : ℕ). pulsed_as (Some (m, mode_by r)) (triggered x f) g) t
         ∙ ap (λ (c : Count). record { control = k.control; trigger = 0; count = c; bus = k.bus })
         (face_taken k.count g (on k.bus.halfwritten) z f r n refl)
         ∙ sym (ap (λ (x : ℕ). triggered x (counted_as n r k.count.register f)) t)
 
-    go : (x : Setup) → setup_of k.control ≡ x → pulsed_as x (faced k f) g ≡ faced k (counted_as (counts x k g) (rate k.control) k.count.register f)
-    go Unprogrammed e = refl
-    go (Programmed m d) e = rw (mode_bit k.control m d e) (by m (rate k.control))
+    go : (x : Option (Format × Mode)) → setup_of k.control ≡ x
+        → pulsed_as x (faced k f) g ≡ faced k (counted_as (counts x k g) (rate k.control) k.count.register f)
+    go None e = refl
+    go (Some (m, d)) e = rw (mode_bit k.control m d e) (by m (rate k.control))

@@ -1,14 +1,13 @@
 -- Mode 2 over any number of CLK pulses. Data sheet (manual, chapter 19), "Mode 2: Rate Generator". What is said holds of every counter that is programmed in
 -- mode 2, with any count, flags and bytes but for what is named. A working counter has no 1 to load; a count of bytes is a number of 16 bits (SignalLaws,
 -- whole_word).
-use Rattle.std.specs.Prelude.{◌≡◌, ℕ, suc, ◌+◌, ◌%◌, ◌<◌, Bool, true, false, not, ◌||◌, [], ◌∷◌, ◌==◌, ◌≢◌, refl}
+use Rattle.std.specs.Prelude.{◌≡◌, ℕ, suc, ◌+◌, ◌%◌, ◌<◌, Bool, true, false, not, ◌||◌, [], ◌∷◌, ◌==◌, ◌≢◌, refl, Some}
 use Rattle.std.proofs.Common.{sym, ap, ◌∙◌}
 use Rattle.base.specs.Flags.{on}
 use Rattle.counter_modes.specs.Control.{command, setup_of}
 use Rattle.counter_modes.specs.declared.ControlCommand.TheVariants.{Program}
 use Rattle.counter_modes.specs.declared.Mode.TheVariants.{RateGenerator}
 use Rattle.counter_modes.specs.declared.Format.{Format}
-use Rattle.counter_modes.specs.declared.Setup.TheVariants.{Programmed}
 use Rattle.counter_element.specs.Element.{pulse_loads, pulse_counts}
 use Rattle.counter_element.specs.declared.Count.{Count}
 use Rattle.counter_bytes.specs.Bytes.{piece_of}
@@ -37,12 +36,12 @@ rate_of_3 = refl
 
 -- a control word programs the counter, and no count is loaded since: what `out-from_count` asks for
 pub ready_for_count : (k : Counter) (w : ℕ) {f : Format} → command w ≡ Program f RateGenerator
-    → (setup_of (commanded k w).control ≡ Programmed f RateGenerator) × (on (commanded k w).count.loaded ≡ false)
+    → (setup_of (commanded k w).control ≡ Some (f, RateGenerator)) × (on (commanded k w).count.loaded ≡ false)
 ready_for_count k w {f} e =
     let c = commanded-anew k w e in
     (ap (λ (d : Counter). setup_of d.control) c ∙ setup_programmed w f RateGenerator e, ap (λ (d : Counter). on d.count.loaded) c)
 
-module _ (k : Counter) {f : Format} (at : setup_of k.control ≡ Programmed f RateGenerator) where
+module _ (k : Counter) {f : Format} (at : setup_of k.control ≡ Some (f, RateGenerator)) where
   -- wherever the next CLK pulse loads: after a first count, or after a trigger, as the next two say
   pub out-from_load : pulse_loads RateGenerator (on k.trigger) k.count ≡ true → k.count.register < 65536 → (k.count.register ≢ 1) → (p : ℕ)
       → on (pulses (suc p) k true).count.out ≡ rate_out k.count.register (suc p)
@@ -71,7 +70,7 @@ module _ (k : Counter) {f : Format} (at : setup_of k.control ≡ Programmed f Ra
       → on (pulses (suc p) (gate_moved (pulses q (gate_moved k true false) false) false true) true).count.out ≡ rate_out k.count.register (suc p)
   out-gate_again w e l q p =
       let d = gate_moved k true false in
-      let i : setup_of d.control ≡ Programmed f RateGenerator = ap setup_of (control-gated k true false) ∙ at in
+      let i : setup_of d.control ≡ Some (f, RateGenerator) = ap setup_of (control-gated k true false) ∙ at in
       let r : (pulses q d false).count.register ≡ k.count.register =
       rests-long (λ (c : Count). c.register ≡ k.count.register) (λ c h. h) q d i (register-gated k true false) in
       let o : on (pulses q d false).count.loaded ≡ true =

@@ -1,5 +1,5 @@
 -- What the theorems of ModeTwo rest on: a counter in mode 2 within a period, over whole periods, and as a pulse loads it.
-use Rattle.std.specs.Prelude.{◌≡◌, ℕ, zero, suc, ◌+◌, ◌*◌, ◌/◌, ◌%◌, ◌<◌, ◌≤◌, Bool, true, false, not, ◌&&◌, ◌==◌, ◌≢◌, nat_eq, refl}
+use Rattle.std.specs.Prelude.{◌≡◌, ℕ, zero, suc, ◌+◌, ◌*◌, ◌/◌, ◌%◌, ◌<◌, ◌≤◌, Bool, true, false, not, ◌&&◌, ◌==◌, ◌≢◌, nat_eq, refl, Some}
 use Rattle.std.proofs.Common.{arith, div-add-mod', mod-lt, sym, ap, ◌∙◌}
 use Rattle.std.proofs.Math.Bool.{and-false, or-true}
 use borrow.Author.Tests.{eqb-true, eqb-false, ne_eqb}
@@ -9,7 +9,6 @@ use Rattle.base.specs.Laws.{by_choice}
 use Rattle.counter_modes.specs.Control.{setup_of}
 use Rattle.counter_modes.specs.declared.Mode.TheVariants.{RateGenerator}
 use Rattle.counter_modes.specs.declared.Format.{Format}
-use Rattle.counter_modes.specs.declared.Setup.TheVariants.{Programmed}
 use Rattle.counter_element.specs.Element.{down, load, pulse_loads}
 use Rattle.counter_element.specs.declared.Count.{Count}
 use Rattle.counter_one.specs.Counter.{pulsed, gate_moved, byte_written}
@@ -37,7 +36,7 @@ last-is_multiple p d = by (p % suc d == d) refl (p / suc d) (p % suc d) (sym (di
         let s : suc p ≡ q * suc d + suc m = omega arith in
         sym (ap (λ (y : ℕ). nat_eq (y % suc d) 0) s ∙ ap (λ (y : ℕ). nat_eq y 0) (digits_mod q {m = suc d} {r = suc m} i) ∙ ne_eqb (suc m) 0 (λ e. omega arith))
 
-module _ (k : Counter) {f : Format} (at : setup_of k.control ≡ Programmed f RateGenerator) where
+module _ (k : Counter) {f : Format} (at : setup_of k.control ≡ Some (f, RateGenerator)) where
   -- the counter with the count v, where it counts
   abbrev pub at-element : ℕ → ℕ → Counter
   at-element v o = part k (at_count k.count v o)
@@ -123,13 +122,13 @@ module _ (k : Counter) {f : Format} (at : setup_of k.control ≡ Programmed f Ra
 
 -- what a load keeps, CLK pulses at a low GATE keep
 pub rests-long : (P : Count → Type 0) → ((d : Count) → P d → P (load d true)) → (q : ℕ) (k : Counter) {f : Format}
-    → setup_of k.control ≡ Programmed f RateGenerator
+    → setup_of k.control ≡ Some (f, RateGenerator)
     → P k.count → P (pulses q k false).count
 rests-long P l zero k at h = h
 rests-long P l (suc q) k at h = rests-long P l q (pulsed k false) (ap setup_of (control-pulsed k false) ∙ at) (rests k at P l h)
 
 -- from a trigger on
-pub out-triggered : (k : Counter) {f : Format} → setup_of k.control ≡ Programmed f RateGenerator → on k.count.loaded ≡ true → k.count.register < 65536
+pub out-triggered : (k : Counter) {f : Format} → setup_of k.control ≡ Some (f, RateGenerator) → on k.count.loaded ≡ true → k.count.register < 65536
     → (k.count.register ≢ 1) → (p : ℕ)
     → on (pulses (suc p) (gate_moved k false true) true).count.out ≡ not (suc p % initial_count k.count.register == 0)
 out-triggered k at e l o p =

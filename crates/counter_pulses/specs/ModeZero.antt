@@ -1,7 +1,7 @@
 -- Mode 0 over any number of CLK pulses. Data sheet (manual, chapter 19), "Mode 0: Interrupt on Terminal Count". What is said holds of every counter that is
 -- programmed in mode 0, with any count, flags and bytes before: nothing else is asked of it. A count n of bytes is a number of 16 bits (SignalLaws,
 -- whole_word).
-use Rattle.std.specs.Prelude.{◌≡◌, ℕ, Bool, false, ◌&&◌, List, refl, if◌then◌else◌}
+use Rattle.std.specs.Prelude.{◌≡◌, ℕ, Bool, false, ◌&&◌, List, refl, if◌then◌else◌, Some}
 use Rattle.std.proofs.Common.{ap, ◌∙◌}
 use Rattle.std.proofs.Math.Path.{subst⁻¹}
 use Rattle.base.specs.Flags.{on}
@@ -9,7 +9,6 @@ use Rattle.counter_modes.specs.Control.{command, setup_of}
 use Rattle.counter_modes.specs.declared.ControlCommand.TheVariants.{Program}
 use Rattle.counter_modes.specs.declared.Mode.TheVariants.{TerminalCount}
 use Rattle.counter_modes.specs.declared.Format.{Format}
-use Rattle.counter_modes.specs.declared.Setup.TheVariants.{Programmed}
 use Rattle.counter_bytes.specs.Bytes.{no_bytes, piece_of, bytes_after}
 use Rattle.counter_bytes.specs.declared.Piece.TheVariants.{First}
 use Rattle.counter_one.specs.Counter.{programmed, commanded, byte_written}
@@ -26,7 +25,7 @@ out-after_control k w {f} e g x =
     ap (λ (c : Counter). on (after_signals c g x).count.out) (commanded-anew k w e)
     ∙ ap on (unloaded (programmed w TerminalCount) (setup_programmed w f TerminalCount e) no_bytes 0 0 0 g x)
 
-module _ (k : Counter) {f : Format} (at : setup_of k.control ≡ Programmed f TerminalCount) where
+module _ (k : Counter) {f : Format} (at : setup_of k.control ≡ Some (f, TerminalCount)) where
   -- The first byte of two: "Writing the first byte disables counting. Out is set low immediately". OUT stays low and the count stands whatever signals come; a
   -- whole count that waits as the byte is written is loaded by its CLK pulse all the same.
   pub first-byte_stops : (b : ℕ) → piece_of f k.bus b ≡ First b → (g : Bool) (x : List Signal)

@@ -1,5 +1,5 @@
 -- What the theorems of ModeZero rest on: a counter in mode 0 as a count comes to it, and signal by signal after that.
-use Rattle.std.specs.Prelude.{◌≡◌, ℕ, suc, Bool, true, false, ◌&&◌, ◌||◌, List, [], ◌∷◌, ◌==◌, nat_le, refl, if◌then◌else◌}
+use Rattle.std.specs.Prelude.{◌≡◌, ℕ, suc, Bool, true, false, ◌&&◌, ◌||◌, List, [], ◌∷◌, ◌==◌, nat_le, refl, if◌then◌else◌, Some}
 use Rattle.std.proofs.Common.{arith, sym, ap, ◌∙◌, eqb-true, le-leb}
 use Rattle.std.proofs.Math.Path.{subst⁻¹}
 use Rattle.std.proofs.Math.Bool.{and-false, or-false}
@@ -9,7 +9,6 @@ use Rattle.base.specs.Flags.{on, flag, on-flag}
 use Rattle.counter_modes.specs.Control.{setup_of}
 use Rattle.counter_modes.specs.declared.Mode.TheVariants.{TerminalCount}
 use Rattle.counter_modes.specs.declared.Format.{Format}
-use Rattle.counter_modes.specs.declared.Setup.TheVariants.{Programmed}
 use Rattle.counter_element.specs.Element.{down, counted_by}
 use Rattle.counter_bytes.specs.Bytes.{piece_of, bytes_after}
 use Rattle.counter_bytes.specs.declared.Piece.TheVariants.{First, Whole}
@@ -18,7 +17,7 @@ use Rattle.counter_one.specs.Counter.{pulsed, gate_moved, byte_written}
 use Rattle.counter_one.specs.declared.Counter.{Counter}
 use Rattle.counter_pulses.specs.Signals.{Signal, clk, gate, after_signals, high_pulses, any_pulse}
 
-module _ (k : Counter) {f : Format} (at : setup_of k.control ≡ Programmed f TerminalCount) (s : Bus) (r : ℕ) where
+module _ (k : Counter) {f : Format} (at : setup_of k.control ≡ Some (f, TerminalCount)) (s : Bus) (r : ℕ) where
   -- the counter with other numbers; s is what the bus has written of it, r the count to load
   abbrev pub with : ℕ → ℕ → ℕ → ℕ → ℕ → Counter
   with t v o w l = record { control = k.control; trigger = t; count = record { register = r; element = v; out = o; waiting = w; loaded = l }; bus = s }
@@ -93,7 +92,7 @@ module _ (k : Counter) {f : Format} (at : setup_of k.control ≡ Programmed f Te
         subst⁻¹ (λ (c : Counter). Halted v (on w && any_pulse x) (after_signals c i x)) (gated t v false w l g i) (halts (flag (on t || false)) v w l i x)
 
 -- ---- a byte of a count
-module _ (k : Counter) {f : Format} (at : setup_of k.control ≡ Programmed f TerminalCount) (b : ℕ) where
+module _ (k : Counter) {f : Format} (at : setup_of k.control ≡ Some (f, TerminalCount)) (b : ℕ) where
   pub whole-written : {n : ℕ} → piece_of f k.bus b ≡ Whole n
       → byte_written k b ≡ with k at (bytes_after k.bus (Whole n)) n k.trigger k.count.element 0 1 k.count.loaded
   unfolding byte_written

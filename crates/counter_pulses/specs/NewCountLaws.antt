@@ -1,6 +1,6 @@
 -- What the theorems of ModeTwo on a count that is written while another runs rest on: a counter in mode 2 that is in a period, with OUT low where its count is
 -- 1.
-use Rattle.std.specs.Prelude.{◌≡◌, ℕ, suc, ◌+◌, ◌%◌, ◌<◌, ◌≤◌, Bool, true, false, not, ◌||◌, ◌==◌, ◌≢◌, refl, if◌then◌else◌}
+use Rattle.std.specs.Prelude.{◌≡◌, ℕ, suc, ◌+◌, ◌%◌, ◌<◌, ◌≤◌, Bool, true, false, not, ◌||◌, ◌==◌, ◌≢◌, refl, if◌then◌else◌, Some}
 use Rattle.std.proofs.Common.{arith, sym, ap, ◌∙◌, eqb-true, eq-eqb, ne_eqb}
 use Rattle.std.proofs.Math.Bool.{and-true}
 use Rattle.std.proofs.lemmas.Bool.{eqb-false}
@@ -9,7 +9,6 @@ use Rattle.base.specs.Laws.{by_choice, never}
 use Rattle.counter_modes.specs.Control.{setup_of}
 use Rattle.counter_modes.specs.declared.Mode.TheVariants.{RateGenerator}
 use Rattle.counter_modes.specs.declared.Format.{Format}
-use Rattle.counter_modes.specs.declared.Setup.TheVariants.{Programmed}
 use Rattle.counter_element.specs.Element.{down, load, counted_by, pulse_loads, pulse_counts, pulse_taken}
 use Rattle.counter_element.specs.declared.Count.{Count}
 use Rattle.counter_one.specs.Counter.{pulsed}
@@ -36,7 +35,7 @@ taken-low_at_one c g t half o h = by (pulse_loads RateGenerator t c) (pulse_coun
     by false true h = by_choice Low (c.element == 1) (rw (ne_eqb c.register 1 o)) (on-flag (not (down c.element == 1)))
     by false false h = never h
 
-module _ (k : Counter) {f : Format} (at : setup_of k.control ≡ Programmed f RateGenerator) where
+module _ (k : Counter) {f : Format} (at : setup_of k.control ≡ Some (f, RateGenerator)) where
   pub pulsed-low_at_one : (k.count.register ≢ 1) → (g : Bool)
       → pulse_loads RateGenerator (on k.trigger) k.count || pulse_counts RateGenerator g (on k.bus.halfwritten) k.count ≡ true
       → on (pulsed k g).count.out ≡ not ((pulsed k g).count.element == 1)
@@ -81,7 +80,7 @@ module _ (k : Counter) {f : Format} (at : setup_of k.control ≡ Programmed f Ra
           ∙ loads-anew k at k.count.element (omega arith)
 
 -- ---- a counter in a period, before and after a new count is written
-module _ (k : Counter) {f : Format} (at : setup_of k.control ≡ Programmed f RateGenerator) (w : WorkingCounter k) (s : settled k ≡ true)
+module _ (k : Counter) {f : Format} (at : setup_of k.control ≡ Some (f, RateGenerator)) (w : WorkingCounter k) (s : settled k ≡ true)
     (e : on k.count.loaded ≡ true) (o : on k.count.out ≡ not (k.count.element == 1)) (v : k.count.element < 65536) where
   no_trigger : k.trigger ≡ 0
   no_trigger = clear k.trigger w.flags.trigger (calm (on k.trigger) (on k.count.waiting) s).0

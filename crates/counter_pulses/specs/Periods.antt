@@ -1,6 +1,6 @@
 -- Whole periods of a counter in mode 2: they leave it as it was, and its OUT falls once in each. Data sheet (manual, chapter 19), mode 2: "When the
 -- initial count has decremented to 1, OUT goes low for one CLK pulse. OUT then goes high again, the Counter reloads the initial count".
-use Rattle.std.specs.Prelude.{◌≡◌, ℕ, zero, suc, ◌+◌, ◌-◌, ◌*◌, ◌<◌, ◌≤◌, Bool, true, false, not, ◌&&◌, nat_le, nat_lt, refl, if◌then◌else◌}
+use Rattle.std.specs.Prelude.{◌≡◌, ℕ, zero, suc, ◌+◌, ◌-◌, ◌*◌, ◌<◌, ◌≤◌, Bool, true, false, not, ◌&&◌, nat_le, nat_lt, refl, if◌then◌else◌, Option, Some, None}
 use Rattle.std.proofs.Common.{arith, sym, ap, ◌∙◌, subst}
 use borrow.Author.Tests.{eqb-true, ne_eqb, ltb-true, leb-true}
 use Rattle.base.specs.Flags.{on}
@@ -8,8 +8,7 @@ use Rattle.base.specs.Laws.{both, not_true}
 use Rattle.counter_modes.specs.Control.{setup_of}
 use Rattle.counter_modes.specs.declared.Mode.TheVariants.{TerminalCount, RateGenerator}
 use Rattle.counter_modes.specs.declared.Format.{Format}
-use Rattle.counter_modes.specs.declared.Setup.{Setup}
-use Rattle.counter_modes.specs.declared.Setup.TheVariants.{Unprogrammed, Programmed}
+use Rattle.counter_modes.specs.declared.Mode.{Mode}
 use Rattle.counter_element.specs.Element.{down, counted_by}
 use Rattle.counter_element.specs.declared.Count.{Count}
 use Rattle.counter_one.specs.Counter.{pulsed}
@@ -35,10 +34,10 @@ cycles k g = not (on k.trigger) && (not (on k.count.waiting) && (on k.count.out 
 abbrev pub lap_of : ℕ → ℕ → ℕ
 lap_of register element = if nat_lt 0 (down element) && nat_le (down element) (down register) then suc (down register) else 0
 
-abbrev pub period_as : Setup → Counter → Bool → ℕ
-period_as Unprogrammed k g = 0
-period_as (Programmed f TerminalCount) k g = 0
-period_as (Programmed f RateGenerator) k g = if cycles k g then lap_of k.count.register k.count.element else 0
+abbrev pub period_as : Option (Format × Mode) → Counter → Bool → ℕ
+period_as None k g = 0
+period_as (Some (f, TerminalCount)) k g = 0
+period_as (Some (f, RateGenerator)) k g = if cycles k g then lap_of k.count.register k.count.element else 0
 
 unfoldable pub period : Counter → Bool → ℕ
 period k g = period_as (setup_of k.control) k g
@@ -112,7 +111,7 @@ same-down h i e = omega arith
 abbrev pub at_count : Count → ℕ → ℕ → Count
 at_count c v o = record { register = c.register; element = v; out = o; waiting = 0; loaded = 1 }
 
-module _ (k : Counter) (g : Bool) {f : Format} (at : setup_of k.control ≡ Programmed f RateGenerator)
+module _ (k : Counter) (g : Bool) {f : Format} (at : setup_of k.control ≡ Some (f, RateGenerator))
     (n : g && not (on k.bus.halfwritten && false) ≡ true) where
   abbrev st : ℕ → ℕ → Counter
   st v o = part k (at_count k.count v o)
@@ -178,7 +177,7 @@ one-period k g v e r = by (setup_of k.control) refl
     gated true false l = refl
     gated false h l = l
 
-    at-rate : {f : Format} (c l : Bool) → setup_of k.control ≡ Programmed f RateGenerator → cycles k g ≡ c
+    at-rate : {f : Format} (c l : Bool) → setup_of k.control ≡ Some (f, RateGenerator) → cycles k g ≡ c
         → (nat_lt 0 (down k.count.element) && nat_le (down k.count.element) (down k.count.register)) ≡ l
         → 0 < (if c then (if l then suc (down k.count.register) else 0) else 0)
         → Trip g (if c then (if l then suc (down k.count.register) else 0) else 0) 1 k k
@@ -196,10 +195,10 @@ one-period k g v e r = by (setup_of k.control) refl
     at-rate true false at h w l = absurd (omega arith)
     at-rate false x at h w l = absurd (omega arith)
 
-    by : (s : Setup) → setup_of k.control ≡ s → 0 < period_as s k g → Trip g (period_as s k g) 1 k k
-    by Unprogrammed at l = absurd (omega arith)
-    by (Programmed f TerminalCount) at l = absurd (omega arith)
-    by (Programmed f RateGenerator) at l = at-rate (cycles k g) _ at refl refl l
+    by : (s : Option (Format × Mode)) → setup_of k.control ≡ s → 0 < period_as s k g → Trip g (period_as s k g) 1 k k
+    by None at l = absurd (omega arith)
+    by (Some (f, TerminalCount)) at l = absurd (omega arith)
+    by (Some (f, RateGenerator)) at l = at-rate (cycles k g) _ at refl refl l
 
 -- n periods
 pub periods : (k : Counter) (g : Bool) → WorkingCounter k → k.count.element < 65536 → k.count.register < 65536 → 0 < period k g

@@ -1,6 +1,6 @@
 -- Many CLK pulses at one counter, taken at once while its count alone moves. Data sheet (manual, chapter 19), modes 0 and 2: OUT stays as it is
 -- until the count comes to 0 in mode 0, and until it comes to 1 in mode 2.
-use Rattle.std.specs.Prelude.{◌≡◌, ℕ, zero, suc, ◌+◌, ◌-◌, ◌*◌, ◌%◌, ◌<◌, ◌≤◌, Bool, true, false, ◌&&◌, ◌||◌, refl, if◌then◌else◌}
+use Rattle.std.specs.Prelude.{◌≡◌, ℕ, zero, suc, ◌+◌, ◌-◌, ◌*◌, ◌%◌, ◌<◌, ◌≤◌, Bool, true, false, ◌&&◌, ◌||◌, refl, if◌then◌else◌, Option, Some, None}
 use Rattle.std.proofs.Common.{arith, sym, ap, ◌∙◌, eqb-true, ne_eqb}
 use Rattle.std.proofs.lemmas.Bool.{eqb-false}
 use Rattle.base.specs.Flags.{on}
@@ -9,8 +9,6 @@ use Rattle.counter_modes.specs.Modes.{trigger_loads}
 use Rattle.counter_modes.specs.declared.Mode.{Mode}
 use Rattle.counter_modes.specs.declared.Mode.TheVariants.{TerminalCount, RateGenerator}
 use Rattle.counter_modes.specs.declared.Format.{Format}
-use Rattle.counter_modes.specs.declared.Setup.{Setup}
-use Rattle.counter_modes.specs.declared.Setup.TheVariants.{Unprogrammed, Programmed}
 use Rattle.counter_element.specs.Element.{down, counted_by, pulse_loads, pulse_counts}
 use Rattle.counter_element.specs.declared.Count.{Count}
 use Rattle.counter_one.specs.Counter.{pulsed}
@@ -47,14 +45,14 @@ abbrev pub spare : Mode → Count → ℕ
 spare TerminalCount c = down c.element
 spare RateGenerator c = if on c.out then down c.element - 1 else 0
 
-abbrev pub counts : Setup → Counter → Bool → Bool
-counts Unprogrammed k gate = false
-counts (Programmed f m) k gate = pulse_counts m gate (on k.bus.halfwritten) k.count
+abbrev pub counts : Option (Format × Mode) → Counter → Bool → Bool
+counts None k gate = false
+counts (Some (f, m)) k gate = pulse_counts m gate (on k.bus.halfwritten) k.count
 
 -- of a counter that the next pulse may load: none
-abbrev pub quiet_as : Setup → Counter → Bool → ℕ
-quiet_as Unprogrammed k gate = far
-quiet_as (Programmed f m) k gate =
+abbrev pub quiet_as : Option (Format × Mode) → Counter → Bool → ℕ
+quiet_as None k gate = far
+quiet_as (Some (f, m)) k gate =
     if on k.trigger || on k.count.waiting then 0
     else if pulse_counts m gate (on k.bus.halfwritten) k.count then spare m k.count
     else far
@@ -125,7 +123,7 @@ no_load_lem m c w = rw w (by (on c.loaded) (trigger_loads m))
     by true false = refl
     by false t = refl
 
-module _ (k : Counter) (g : Bool) {f : Format} {m : Mode} (at : setup_of k.control ≡ Programmed f m) where
+module _ (k : Counter) (g : Bool) {f : Format} {m : Mode} (at : setup_of k.control ≡ Some (f, m)) where
   one-count : (c : Count) → c.out ≤ 1 → on c.waiting ≡ false → pulse_counts m g (on k.bus.halfwritten) c ≡ true → 0 < spare m c
       → pulsed (part k c) g ≡ part k (at_element c (down c.element))
   unfolding pulsed
@@ -146,7 +144,7 @@ module _ (k : Counter) (g : Bool) {f : Format} {m : Mode} (at : setup_of k.contr
       let l : pulse_loads m (on k.trigger) k.count ≡ false = rw t (no_load_lem m k.count w) in
       rw (at, l, n) (ap (λ (x : ℕ). record { control = k.control; trigger = x; count = k.count; bus = k.bus }) (sym t))
 
-  leaps_as : (p : ℕ) → Flags k → p ≤ quiet_as (Programmed f m) k g
+  leaps_as : (p : ℕ) → Flags k → p ≤ quiet_as (Some (f, m)) k g
       → pulses p k g ≡ (if pulse_counts m g (on k.bus.halfwritten) k.count then with_element k (downs p k.count.element) else k)
   leaps_as p v = by p (on k.trigger) (on k.count.waiting) (pulse_counts m g (on k.bus.halfwritten) k.count) refl refl refl
     where
@@ -169,7 +167,7 @@ module _ (k : Counter) (g : Bool) {f : Format} {m : Mode} (at : setup_of k.contr
       by (suc p) true w n t' w' n' h = absurd (omega arith)
       by (suc p) false true n t' w' n' h = absurd (omega arith)
 
-off : (k : Counter) (g : Bool) → setup_of k.control ≡ Unprogrammed → pulsed k g ≡ k
+off : (k : Counter) (g : Bool) → setup_of k.control ≡ None → pulsed k g ≡ k
 unfolding pulsed
 off k g at = rw at
 
@@ -178,10 +176,10 @@ pub leaps : (p : ℕ) (k : Counter) (g : Bool) → WorkingCounter k → p ≤ qu
 unfolding quiet_pulses leapt_counter
 leaps p k g v = by (setup_of k.control) refl
   where
-    by : (s : Setup) → setup_of k.control ≡ s → p ≤ quiet_as s k g
+    by : (s : Option (Format × Mode)) → setup_of k.control ≡ s → p ≤ quiet_as s k g
         → pulses p k g ≡ (if counts s k g then with_element k (downs p k.count.element) else k)
-    by Unprogrammed at h = stands p k g (off k g at)
-    by (Programmed f m) at h = leaps_as k g at p v.flags h
+    by None at h = stands p k g (off k g at)
+    by (Some (f, m)) at h = leaps_as k g at p v.flags h
 
 pub leapt-out : (p : ℕ) (k : Counter) (g : Bool) → (leapt_counter p k g).count.out ≡ k.count.out
 unfolding leapt_counter

@@ -3,8 +3,10 @@
 #![tactic(auto)]
 
 ghost use Rattle.std.specs.Prelude.{◌≡◌};
+ghost use Rattle.counter_modes.specs.Bits.{rate};
+ghost use Rattle.counter_modes.specs.Control.{setup_of};
 ghost use Rattle.counter_one.specs.Working.{WorkingCounter};
-ghost use Rattle.counter_pulses.specs.Pulses.{quiet_pulses, leapt_counter};
+ghost use Rattle.counter_pulses.specs.Pulses.{counts, quiet_pulses, leapt_counter};
 ghost use Rattle.counter_pulses.specs.Periods.{Lap, Period};
 ghost use Rattle.counter_pulses.specs.Faces.{settled, face_of, pace_of, faced, face_counted};
 
@@ -25,23 +27,39 @@ pub struct Pace {
     pub register: u16,
 }
 
+// Whether bit 2 of the control bits is set, as in mode 2.
+#[inline(always)]
+fn is_rate(k: Counter) -> bool
+    ensures { result ≡ rate k.control }
+{
+    k.control / 4 % 2 == 1
+}
+
+// Whether a pulse that loads nothing counts.
+#[tactic(auto, using(crate::proofs::Parts::counts_so))]
+#[inline(always)]
+fn does_count(k: Counter, gate: bool) -> bool
+    requires { WorkingCounter k }
+    ensures { result ≡ counts (setup_of k.control) k gate }
+{
+    let stopped = (k.bus.halfwritten == 1) & !is_rate(k);
+    (k.control != 0) & ((k.count.loaded == 1) & (gate & !stopped))
+}
+
 // The pulses in which the count of a counter alone moves; 4,294,967,295 where it stands.
 pub fn quiet_pulses(k: Counter, gate: bool) -> u32
     requires { WorkingCounter k }
     ensures { result ≡ quiet_pulses k gate }
 {
     if k.control == 0 {
-        return 4294967295;
-    }
-    let rate = k.control / 4 % 2 == 1;
-    if (k.trigger == 1) | (k.count.waiting == 1) {
+        u32::MAX
+    } else if !is_settled(k) {
         0
-    } else if !((k.count.loaded == 1) & (gate & !((k.bus.halfwritten == 1) & !rate))) {
-        4294967295
+    } else if !does_count(k, gate) {
+        u32::MAX
     } else {
-        let element = k.count.element;
-        let left = std::num::wrapping_sub_u16(element, 1);
-        if !rate {
+        let left = k.count.element.wrapping_sub(1);
+        if !is_rate(k) {
             left as u32
         } else if (k.count.out != 1) | (left == 0) {
             0
@@ -52,18 +70,14 @@ pub fn quiet_pulses(k: Counter, gate: bool) -> u32
 }
 
 // A counter after p of them.
+#[tactic(auto, using(crate::proofs::Parts::lowers), unfolding(crate::specs::Pulses::leapt_counter))]
 pub fn leap_counter(k: Counter, gate: bool, p: u32) -> Counter
     requires { WorkingCounter k }
     ensures { result ≡ leapt_counter p k gate }
 {
-    if k.control == 0 {
-        return k;
-    }
-    let rate = k.control / 4 % 2 == 1;
-    if (k.count.loaded == 1) & (gate & !((k.bus.halfwritten == 1) & !rate)) {
-        let v = std::num::wrapping_sub_u16(k.count.element, (p % 65536) as u16);
+    if does_count(k, gate) {
         let mut d = k;
-        d.count.element = v;
+        d.count.element = k.count.element.wrapping_sub((p % 65536) as u16);
         d
     } else {
         k
@@ -74,8 +88,8 @@ pub fn leap_counter(k: Counter, gate: bool, p: u32) -> Counter
 fn lap(register: u16, element: u16) -> u32
     ensures { Lap register element result }
 {
-    let e = std::num::wrapping_sub_u16(element, 1);
-    let r = std::num::wrapping_sub_u16(register, 1);
+    let e = element.wrapping_sub(1);
+    let r = register.wrapping_sub(1);
     if (0 < e) & (e <= r) { r as u32 + 1 } else { 0 }
 }
 
@@ -84,14 +98,7 @@ pub fn period_of(k: Counter, gate: bool) -> u32
     requires { WorkingCounter k }
     ensures { Period k gate result }
 {
-    let rate = k.control / 4 % 2 == 1;
-    if rate
-        & (k.trigger != 1)
-        & (k.count.waiting != 1)
-        & (k.count.out == 1)
-        & (k.count.loaded == 1)
-        & gate
-    {
+    if is_rate(k) & is_settled(k) & (k.count.out == 1) & (k.count.loaded == 1) & gate {
         lap(k.count.register, k.count.element)
     } else {
         0
@@ -99,6 +106,7 @@ pub fn period_of(k: Counter, gate: bool) -> u32
 }
 
 // Whether a counter has no trigger and no count to load.
+#[inline(always)]
 pub fn is_settled(k: Counter) -> bool
     ensures { result ≡ settled k }
 {
@@ -106,6 +114,7 @@ pub fn is_settled(k: Counter) -> bool
 }
 
 // The face of a counter.
+#[inline(always)]
 pub fn face_of(k: Counter) -> Face
     ensures { result ≡ face_of k }
 {
@@ -116,20 +125,21 @@ pub fn face_of(k: Counter) -> Face
 }
 
 // Its pace.
+#[tactic(auto, unfolding(crate::specs::Faces::pace_of))]
+#[inline(always)]
 pub fn pace_of(k: Counter, gate: bool) -> Pace
     requires { WorkingCounter k }
     ensures { result ≡ pace_of k gate }
 {
-    let rate = k.control / 4 % 2 == 1;
-    let counts = (k.count.loaded == 1) & (gate & !((k.bus.halfwritten == 1) & !rate));
     Pace {
-        counts: (k.control != 0) & counts,
-        rate,
+        counts: does_count(k, gate),
+        rate: is_rate(k),
         register: k.count.register,
     }
 }
 
 // A counter with another face.
+#[inline(always)]
 pub fn put_face(k: Counter, f: Face) -> Counter
     ensures { result ≡ faced k f }
 {
@@ -140,6 +150,8 @@ pub fn put_face(k: Counter, f: Face) -> Counter
 }
 
 // A face after a pulse.
+#[tactic(auto, unfolding(crate::specs::Faces::face_counted))]
+#[inline(always)]
 pub fn count_on(p: Pace, f: Face) -> Face
     ensures { result ≡ face_counted p f }
 {

@@ -17,25 +17,12 @@ pub struct Fifo {
     pub ovf: u16,
 }
 
-// What a read finds: no sample held, or the oldest one. Every number of 16 bits is a sample.
-#[derive(Clone, Copy)]
-pub enum OldestSample {
-    NoneHeld,
-    Sample(u16),
-}
-
 // The bits of the `n` places from `at` on, joined: none where every place is 0.
 fn bits_of(memory: &[u16], at: usize, n: usize) -> u16
     requires { at + n ≤ length memory.now }
     ensures { eqb result 0 ≡ zeros (take n (drop at memory.now)) }
 {
-    let mut bits: u16 = 0;
-    let mut i: usize = 0;
-    while i < n {
-        bits = bits | memory[at + i];
-        i += 1;
-    }
-    bits
+    memory[at..at + n].iter().fold(0, |bits, word| bits | *word)
 }
 
 // Whether `count` places from `from` on are 0, where these are `n` to 2 `n`: the first `n` of them and the last `n`, which may overlap.
@@ -103,35 +90,34 @@ pub fn is_working(f: Fifo, memory: &[u16]) -> bool
     }
 }
 
-// The oldest sample, where one is held.
-pub fn oldest(f: Fifo, memory: &[u16]) -> OldestSample
+// The oldest sample, where one is held. Every number of 16 bits is a sample.
+pub fn oldest(f: Fifo, memory: &[u16]) -> Option<u16>
     requires { WorkingFifo f memory.now }
     ensures { result ≡ oldest_of (queue f memory.now) }
 {
     if f.held == 0 {
-        return OldestSample::NoneHeld;
+        return None;
     }
-    let place = f.place;
-    OldestSample::Sample(memory[place as usize])
+    Some(memory[f.place as usize])
 }
 
 // The low byte of the oldest sample; FF where none is held.
-pub fn low_byte(oldest: OldestSample) -> u8
+pub fn low_byte(oldest: Option<u16>) -> u8
     ensures { result ≡ low_byte_of oldest }
 {
     match oldest {
-        OldestSample::NoneHeld => 0xFF,
-        OldestSample::Sample(sample) => (sample % 256) as u8,
+        None => 0xFF,
+        Some(sample) => (sample % 256) as u8,
     }
 }
 
 // Its high byte; FF where none is held.
-pub fn high_byte(oldest: OldestSample) -> u8
+pub fn high_byte(oldest: Option<u16>) -> u8
     ensures { result ≡ high_byte_of oldest }
 {
     match oldest {
-        OldestSample::NoneHeld => 0xFF,
-        OldestSample::Sample(sample) => (sample / 256) as u8,
+        None => 0xFF,
+        Some(sample) => (sample / 256) as u8,
     }
 }
 
@@ -140,21 +126,14 @@ pub fn push(f: Fifo, memory: &mut [u16], sample: u16) -> Fifo
     requires { WorkingFifo f memory.old }
     ensures { Leaves (pushed_to f) (pushed (queue f memory.old) sample) result memory.new }
 {
-    let held = f.held;
-    if held < 512 {
-        let next = (f.place + held) % 512;
-        memory[next as usize] = sample;
+    if f.held < 512 {
+        memory[((f.place + f.held) % 512) as usize] = sample;
         Fifo {
-            held: held + 1,
-            place: f.place,
-            ovf: f.ovf,
+            held: f.held + 1,
+            ..f
         }
     } else {
-        Fifo {
-            held,
-            place: f.place,
-            ovf: 1,
-        }
+        Fifo { ovf: 1, ..f }
     }
 }
 
@@ -171,14 +150,12 @@ pub fn pop(f: Fifo, memory: &mut [u16]) -> Fifo
     requires { WorkingFifo f memory.old }
     ensures { Leaves (popped_from f) (popped (queue f memory.old)) result memory.new }
 {
-    let held = f.held;
-    if held == 0 {
+    if f.held == 0 {
         return f;
     }
-    let place = f.place;
-    memory[place as usize] = 0;
+    memory[f.place as usize] = 0;
     Fifo {
-        held: held - 1,
+        held: f.held - 1,
         place: place_after(f),
         ovf: 0,
     }
@@ -200,11 +177,7 @@ pub fn clear(memory: &mut [u16]) -> Fifo
     requires { length memory.old ≡ 512 }
     ensures { Leaves empty_fifo [] result memory.new }
 {
-    let mut i: usize = 0;
-    while i < memory.len() {
-        memory[i] = 0;
-        i += 1;
-    }
+    memory.fill(0);
     empty()
 }
 

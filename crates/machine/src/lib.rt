@@ -8,4 +8,4 @@ pub use machine_record::{
     Board, Clocks, Jumpers, Pins, Registers, Wiring, dout_pins, fresh, is_working, single_ended,
 };
 pub use machine_reset::{is_reset, reset_board};
-pub use machine_tick::{clocks_0, clocks_1, next_tick};
+pub use machine_tick::{clocks_0, clocks_1, next_tick, pulse_if};

@@ -1,6 +1,6 @@
 -- The gates of the counters, and a timer that moves (manual, Base+10 and 17.1; the specification, "Conversions, edges and requests").
 -- Base+10 is FREQ12 FREQ0 OUT2EN OUT0EN RSVD GT0EN SRC0 GT12EN.
-use Rattle.std.specs.Prelude.{ℕ, not, ◌||◌}
+use Rattle.std.specs.Prelude.{ℕ, not, ◌||◌, Result, Ok, Err}
 use Rattle.base.specs.Flags.{on}
 use Rattle.base.specs.Fields.{bit}
 use Rattle.converter.specs.Channels.{internal_triggered}
@@ -10,8 +10,7 @@ use Rattle.timer.specs.Timer.{out, gates_moved}
 use Rattle.timer.specs.declared.Timer.{Timer}
 use Rattle.timer.specs.declared.Gates.{Gates}
 use Rattle.timer.specs.declared.Select.TheVariants.{Counter0, Counter2}
-use Rattle.timer.specs.declared.accesses.Written.{Written}
-use Rattle.timer.specs.declared.accesses.Written.TheVariants.{Accepted, Refused}
+use Rattle.base.specs.declared.Refusal.{Refusal}
 use Rattle.machine_record.specs.Parts.{with_converter, with_requests, with_registers, with_clocks}
 use Rattle.machine_record.specs.declared.Registers.{Registers}
 use Rattle.machine_record.specs.declared.Clocks.{Clocks}
@@ -38,9 +37,9 @@ timer_moved b t =
     (internal_triggered b.converter (on b.requests.clksel) (fell (out b.clocks.timer Counter2) (out t Counter2)))
 
 -- by a write of page 0
-abbrev pub timer_moved_by : Board → Written → Board
-timer_moved_by b (Accepted t) = timer_moved b t
-timer_moved_by b (Refused n) = b
+abbrev pub timer_moved_by : Board → Result Timer Refusal → Board
+timer_moved_by b (Ok t) = timer_moved b t
+timer_moved_by b (Err r) = b
 
 -- ---- a write of 10 "may move a gate but is no clock edge or trigger"
 abbrev pub with_counting : Registers → ℕ → Registers

@@ -1,5 +1,5 @@
 -- The gates, a timer that moves and a write of Base+10 keep a working board working.
-use Rattle.std.specs.Prelude.{ℕ}
+use Rattle.std.specs.Prelude.{ℕ, Result, Ok, Err}
 use Rattle.base.specs.Flags.{on}
 use Rattle.requests.specs.Working as requests
 use Rattle.converter.proofs.Working as converter
@@ -12,8 +12,7 @@ use Rattle.timer.specs.Timer.{out, gates_moved}
 use Rattle.timer.specs.declared.Timer.{Timer}
 use Rattle.timer.specs.declared.Gates.{Gates}
 use Rattle.timer.specs.declared.Select.TheVariants.{Counter0, Counter2}
-use Rattle.timer.specs.declared.accesses.Written.{Written}
-use Rattle.timer.specs.declared.accesses.Written.TheVariants.{Accepted, Refused}
+use Rattle.base.specs.declared.Refusal.{Refusal}
 use Rattle.machine_record.specs.Parts.{with_clocks}
 use Rattle.machine_clock.specs.Clock.{gates, gates_at, with_timer, timer_moved, timer_moved_by}
 use Rattle.machine_clock.specs.Clock.{counting_written}
@@ -47,9 +46,9 @@ timer-moved_works b t w k = record {
   zeroscale = w.zeroscale;
 }
 
-pub timer-moved_by_works : (b : Board) (r : Written) → WorkingMachine b → WorkingWritten r → WorkingMachine (timer_moved_by b r)
-timer-moved_by_works b (Accepted t) w k = timer-moved_works b t w k
-timer-moved_by_works b (Refused n) w k = w
+pub timer-moved_by_works : (b : Board) (r : Result Timer Refusal) → WorkingMachine b → WorkingWritten r → WorkingMachine (timer_moved_by b r)
+timer-moved_by_works b (Ok t) w k = timer-moved_works b t w k
+timer-moved_by_works b (Err r) w k = w
 
 -- ---- a write of 10
 pub counting-works : (b : Board) (v : ℕ) → WorkingMachine b → WorkingMachine (counting_written b v)

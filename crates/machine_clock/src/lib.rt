@@ -4,8 +4,8 @@
 ghost use Rattle.std.specs.Prelude.{◌≡◌};
 ghost use Rattle.machine_clock.specs.Clock.{gates_at, gates, with_timer, timer_moved, timer_moved_by};
 
+use base::Refusal;
 use machine_record::{Board, Clocks};
-use timer::accesses::Written;
 use timer::{Gates, Timer};
 
 // The gates at a byte of Base+10 and levels of DIN3-0.
@@ -35,6 +35,7 @@ pub fn put_timer(k: Clocks, t: Timer) -> Clocks
 }
 
 // The timer becomes t: a falling OUT0 asks for TINT, a falling OUT2 may be a trigger.
+#[tactic(auto, unfolding(crate::specs::Clock::timer_moved))]
 pub fn move_timer(b: Board, t: Timer) -> Board
     ensures { result ≡ timer_moved b t }
 {
@@ -49,11 +50,11 @@ pub fn move_timer(b: Board, t: Timer) -> Board
 }
 
 // The timer after a write of page 0; a refused one leaves the board.
-pub fn move_timer_by(b: Board, w: Written) -> Board
+pub fn move_timer_by(b: Board, w: Result<Timer, Refusal>) -> Board
     ensures { result ≡ timer_moved_by b w }
 {
     match w {
-        Written::Accepted(t) => move_timer(b, t),
-        Written::Refused(_) => b,
+        Ok(t) => move_timer(b, t),
+        Err(_) => b,
     }
 }

@@ -76,6 +76,7 @@ fn transfer_that_runs(c: Calibration) -> u8
 }
 
 // What the host has to act on, of a board before and after what happened to it, as bits of one number.
+#[tactic(auto, unfolding(crate::specs::Due::due_of))]
 pub fn due(before: Board, after: Board) -> u32
     ensures { result ≡ due_of before after }
 {

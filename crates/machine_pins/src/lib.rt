@@ -1,24 +1,21 @@
 // The DIN pins: specs/Pins.antt, where the Latch pin and the port pins are defined too.
 #![tactic(auto)]
 
-ghost use Rattle.std.specs.Prelude.{◌≡◌};
+ghost use Rattle.std.specs.Prelude.{◌≡◌, ◌<◌};
 ghost use Rattle.machine_pins.specs.Pins.{fell_from, din_moved, din0_clocked, triggers_stopped, din3_triggered, din_set};
 
 use machine_record::Board;
 use timer::Select;
 
-fn has_fallen_0(was: u8, is: u8) -> bool
-    ensures { result ≡ fell_from was is 0 }
+// Whether a line of DIN3-0 goes from high to low.
+fn has_fallen(was: u8, is: u8, line: u8) -> bool
+    requires { line < 8 }
+    ensures { result ≡ fell_from was is line }
 {
-    (was / 1 % 2 == 1) & !(is / 1 % 2 == 1)
+    ((was >> line) % 2 == 1) & !((is >> line) % 2 == 1)
 }
 
-fn has_fallen_3(was: u8, is: u8) -> bool
-    ensures { result ≡ fell_from was is 3 }
-{
-    (was / 8 % 2 == 1) & !(is / 8 % 2 == 1)
-}
-
+#[tactic(auto, unfolding(crate::specs::Pins::din_moved))]
 fn move_din(b: Board, din: u8) -> Board
     ensures { result ≡ din_moved b din }
 {
@@ -33,6 +30,7 @@ fn move_din(b: Board, din: u8) -> Board
     c
 }
 
+#[tactic(auto, unfolding(crate::specs::Pins::din0_clocked))]
 fn clock_din_0(b: Board, fallen: bool) -> Board
     ensures { result ≡ din0_clocked b fallen }
 {
@@ -54,6 +52,7 @@ fn are_triggers_stopped(b: Board) -> bool
     (b.registers.counting / 1 % 2 == 1) & !(b.pins.din / 4 % 2 == 1)
 }
 
+#[tactic(auto, unfolding(crate::specs::Pins::din3_triggered))]
 fn trigger_din_3(b: Board, fallen: bool) -> Board
     ensures { result ≡ din3_triggered b fallen }
 {
@@ -69,12 +68,13 @@ fn trigger_din_3(b: Board, fallen: bool) -> Board
 }
 
 // DIN3-0 take new levels: the gates first, then counter 0's clock, then the trigger.
+#[tactic(auto, unfolding(crate::specs::Pins::din_set))]
 pub fn set_din(b: Board, din: u8) -> Board
     ensures { result ≡ din_set b din }
 {
     let was = b.pins.din;
     trigger_din_3(
-        clock_din_0(move_din(b, din), has_fallen_0(was, din)),
-        has_fallen_3(was, din),
+        clock_din_0(move_din(b, din), has_fallen(was, din, 0)),
+        has_fallen(was, din, 3),
     )
 }

@@ -75,14 +75,17 @@ pub struct Board {
     pub wiring: Wiring,
 }
 
-fn number_of(jumpers: Jumpers) -> u8
-    ensures { result ≡ jumpers_number jumpers }
-{
-    match jumpers {
-        Jumpers::A => 0,
-        Jumpers::B => 1,
-        Jumpers::C => 2,
-        Jumpers::D => 3,
+// Their number in the record.
+impl From<Jumpers> for u8 {
+    ghost from_gives = { λ jumpers number. number ≡ jumpers_number jumpers };
+
+    fn from(jumpers: Jumpers) -> u8 {
+        match jumpers {
+            Jumpers::A => 0,
+            Jumpers::B => 1,
+            Jumpers::C => 2,
+            Jumpers::D => 3,
+        }
     }
 }
 
@@ -101,7 +104,6 @@ pub fn fresh_registers() -> Registers
 pub fn fresh(jumpers: Jumpers, zero_scale: bool) -> Board
     ensures { result ≡ fresh_board jumpers zero_scale }
 {
-    let inputs = number_of(jumpers);
     Board {
         converter: converter::channels::fresh_converter(),
         requests: requests::fresh_requests(),
@@ -117,7 +119,7 @@ pub fn fresh(jumpers: Jumpers, zero_scale: bool) -> Board
         calibration: calibration::fresh(),
         pins: Pins { din: 15, latch: 0 },
         wiring: Wiring {
-            inputs,
+            inputs: jumpers.into(),
             zeroscale: zero_scale as u8,
         },
     }

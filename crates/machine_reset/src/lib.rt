@@ -18,6 +18,7 @@ fn reset_outputs(o: Outputs, analog: bool, zeroscale: bool) -> Outputs
 }
 
 // RESETA (`analog`) or RESETD. The sample memory is the caller's to empty.
+#[tactic(auto, unfolding(crate::specs::Reset::board_reset))]
 pub fn reset_board(b: Board, analog: bool) -> Board
     ensures { result ≡ board_reset b analog }
 {

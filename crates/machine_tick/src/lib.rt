@@ -33,7 +33,8 @@ pub fn next_tick(n: u16, last: u16) -> u16
 }
 
 // A counter after a CLK pulse, where its clock has one.
-fn pulse_if(k: Counter, gate: bool, clocks: bool) -> Counter
+#[inline(always)]
+pub fn pulse_if(k: Counter, gate: bool, clocks: bool) -> Counter
     requires { WorkingCounter k }
     ensures { result ≡ pulsed_if clocks k gate }
 {

@@ -1,7 +1,8 @@
 -- The specification, "Marked for proof (as one table)": each board case starts fresh, with what it says besides.
-use Rattle.std.specs.Prelude.{ℕ, ◌+◌, ◌*◌, ◌^◌, ◌≡◌, true, false, List, [], ◌∷◌, ◌++◌, pos, negsuc, neg_ℤ, length}
+use Rattle.std.specs.Prelude.{ℕ, ◌+◌, ◌*◌, ◌^◌, ◌≡◌, true, false, List, [], ◌∷◌, ◌++◌, Ok, Err, pos, negsuc, neg_ℤ, length}
 use Rattle.std.specs.Float.{fin}
 use Rattle.std.specs.Float.Ieee.Exact.{HasValue}
+use Rattle.base.specs.Checks.{refused_by}
 use Rattle.converter.specs.Codes.{code_of}
 use Rattle.board_step.specs.States.{Works}
 use Rattle.board_laws.specs.Stretches.{after_events}
@@ -12,7 +13,6 @@ use Rattle.volts.specs.declared.Voltage.TheVariants.{Volts}
 use Rattle.volts.specs.Volts.{input_voltage_of, voltage}
 use Rattle.codes.specs.Output.{given, refused, output_of, bytes_of}
 use Rattle.collector_records.specs.Records.{first_record, start_of}
-use Rattle.collector_records.specs.declared.Started.TheVariants.{Begun, NotBegun}
 use Rattle.marked.specs.Runs.{fresh, full, answers, shown_after, OUT0, channel, times, conversions, beginnings, each_tick, jumpers_c}
 
 -- channels low to high are written
@@ -63,5 +63,5 @@ pub record Marked : Type 0 where
   pub case_10 : shown_after OUT0 (after_events fresh (counter0 0x10 2)) (each_tick 4) ≡ false ∷ false ∷ true ∷ true ∷ []
   pub case_10_count : (after_events fresh (counter0 0x10 2 ++ times 4 Tick)).board.clocks.timer.counter0.count.element ≡ 65535
   -- 11. Jumpers C, 8-15 taken; 15-24 refused 12
-  pub case_11_taken : start_of (jumpers_c 8 15) ≡ Begun (first_record (jumpers_c 8 15))
-  pub case_11_refused : start_of (jumpers_c 15 24) ≡ NotBegun 12
+  pub case_11_taken : start_of (jumpers_c 8 15) ≡ Ok (first_record (jumpers_c 8 15))
+  pub case_11_refused : start_of (jumpers_c 15 24) ≡ Err (refused_by 12)

@@ -1,6 +1,6 @@
 -- The value in a step's answer is one of 16 bits: a read shows registers and counts within their types, bits of a byte, or a byte of the oldest sample; a word
 -- read the oldest sample; either all ones where none is held. Bounds for Decoded.antt.
-use Rattle.std.specs.Prelude.{ℕ, ◌<◌, ◌≡◌, refl, Bool, true, false, List, eqb, if◌then◌else◌}
+use Rattle.std.specs.Prelude.{ℕ, ◌<◌, ◌≡◌, refl, Bool, true, false, List, eqb, if◌then◌else◌, Option, Some, None}
 use Rattle.std.proofs.Common.{subst, arith, eqb-true}
 use Rattle.std.proofs.lemmas.Bool.{eqb-false}
 use mir.Val.{Val}
@@ -13,16 +13,13 @@ use Rattle.fifo.specs.Samples.{oldest_of, low_byte_of, high_byte_of}
 use Rattle.fifo.specs.Queue.{queue, WorkingFifo}
 use Rattle.fifo.specs.Queue.Steps.{oldest-none, oldest-some}
 use Rattle.fifo.specs.declared.Fifo.{Fifo}
-use Rattle.fifo.specs.declared.OldestSample.{OldestSample}
-use Rattle.fifo.specs.declared.OldestSample.TheVariants.{NoneHeld, Sample}
 use Rattle.converter.specs.Bytes.{status-fits}
 use Rattle.converter.specs.contracts.channels.Converter as converter
 use Rattle.converter.proofs.channels.Converter.TheLaws as converterᴸ
 use Rattle.requests.specs.Bytes.{mode_fits}
 use Rattle.requests.specs.contracts.Requests as requests
 use Rattle.requests.proofs.Requests.TheLaws as requestsᴸ
-use Rattle.counter_modes.specs.declared.Setup.{Setup}
-use Rattle.counter_modes.specs.declared.Setup.TheVariants.{Unprogrammed, Programmed}
+use Rattle.counter_modes.specs.declared.Mode.{Mode}
 use Rattle.counter_modes.specs.declared.Format.{Format}
 use Rattle.counter_modes.specs.declared.Format.TheVariants.{LeastByte, MostByte, TwoBytes}
 use Rattle.counter_modes.specs.Control.{setup_of}
@@ -98,9 +95,9 @@ counter-below c vs is =
     let s = owed bus.the_type busᴸ.the_laws c.bus _ p.1.1.1.0 in
     by (setup_of c.control) (shown-below c.bus c.count.element s.0.1 k.1.0.1)
   where
-    by : (x : Setup) → shown c.bus c.count.element < 65536 → (counter_read_as x c).byte < 65536
-    by Unprogrammed h = omega arith
-    by (Programmed f m) h = byte-below f (on c.bus.halfread) (shown c.bus c.count.element) h
+    by : (x : Option (Format × Mode)) → shown c.bus c.count.element < 65536 → (counter_read_as x c).byte < 65536
+    by None h = omega arith
+    by (Some (f, m)) h = byte-below f (on c.bus.halfread) (shown c.bus c.count.element) h
 
 timer-below : (t : Timer) (s : Select) (vs : List Val) → Is timer.the_row t vs → (timer_read t s).byte < 65536
 unfolding timer_read
@@ -158,16 +155,16 @@ registers-below b r =
     }
 
 -- ---- the oldest sample, or none
-abbrev Below : OldestSample → Type 0
+abbrev Below : Option ℕ → Type 0
 Below o = value_read (word_read_answer o) < 65536
 
-low_below : (o : OldestSample) → low_byte_of o < 65536
-low_below NoneHeld = omega arith
-low_below (Sample v) = omega arith
+low_below : (o : Option ℕ) → low_byte_of o < 65536
+low_below None = omega arith
+low_below (Some v) = omega arith
 
-high-below : (o : OldestSample) → Below o → high_byte_of o < 65536
-high-below NoneHeld h = omega arith
-high-below (Sample v) h = omega arith
+high-below : (o : Option ℕ) → Below o → high_byte_of o < 65536
+high-below None h = omega arith
+high-below (Some v) h = omega arith
 
 pub oldest-below : (f : Fifo) (m : List ℕ) → WorkingFifo f m → Sixteen m → Below (oldest_of (queue f m))
 oldest-below f m w s = by (eqb f.held 0) refl
@@ -177,7 +174,7 @@ oldest-below f m w s = by (eqb f.held 0) refl
     by false e = subst Below (oldest-some f m w (eqb-false f.held 0 e)) (s f.place)
 
 -- ---- the byte of any place, the oldest sample being o
-place-below : (b : Board) (o : OldestSample) (p : Place) → Recorded b → Below o → byte_at b o p < 65536
+place-below : (b : Board) (o : Option ℕ) (p : Place) → Recorded b → Below o → byte_at b o p < 65536
 unfolding byte_at
 place-below b o Base0 r h = low_below o
 place-below b o Base1 r h = high-below o h

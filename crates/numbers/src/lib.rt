@@ -59,11 +59,9 @@ pub struct TurnNumbered {
 pub fn in_numbers(out: Outcome) -> Numbered
     ensures { result ≡ numbered_of out }
 {
-    let after = out.board;
-    let answer = out.answer;
     Numbered {
-        board: after,
-        number: numbers_answers::number_of(answer),
+        board: out.board,
+        number: numbers_answers::number_of(out.answer),
     }
 }
 
@@ -71,11 +69,10 @@ pub fn in_numbers(out: Outcome) -> Numbered
 fn word_in_numbers(out: Outcome) -> WordNumbered
     ensures { result ≡ word_numbered out }
 {
-    let after = out.board.fifo;
-    let answer = out.answer;
+    let Numbered { board, number } = in_numbers(out);
     WordNumbered {
-        fifo: after,
-        number: numbers_answers::number_of(answer),
+        fifo: board.fifo,
+        number,
     }
 }
 
@@ -83,7 +80,7 @@ fn word_in_numbers(out: Outcome) -> WordNumbered
 fn byte_of(jumpers: u32) -> u8
     ensures { result ≡ byte_or_all jumpers }
 {
-    if jumpers <= 255 { jumpers as u8 } else { 255 }
+    u8::try_from(jumpers).unwrap_or(255)
 }
 
 // A fresh board's record, for jumpers 0 to 3; any other number makes a record that is no working board's. Zero scale: 0 is no.
@@ -102,6 +99,5 @@ pub fn fresh_stores(memory: &mut [u16], eeprom: &mut [u8]) -> u32
     ensures memory_after { memory.new ≡ fresh_memory memory.old eeprom.old }
     ensures eeprom_after { eeprom.new ≡ fresh_eeprom memory.old eeprom.old }
 {
-    let answer = board::fresh_stores(memory, eeprom);
-    numbers_answers::number_of(answer)
+    numbers_answers::number_of(board::fresh_stores(memory, eeprom))
 }

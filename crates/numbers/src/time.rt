@@ -10,16 +10,12 @@ use board::{Advanced, Board};
 fn in_numbers(out: Advanced) -> AdvancedNumbered
     ensures { result ≡ advanced_numbered out }
 {
-    let after = out.board;
-    let made = out.progress;
-    let answer = made.answer;
-    let progress = ProgressNumbered {
-        answer: numbers_answers::number_of(answer),
-        done: made.done,
-    };
     AdvancedNumbered {
-        board: after,
-        progress,
+        board: out.board,
+        progress: ProgressNumbered {
+            answer: numbers_answers::number_of(out.progress.answer),
+            done: out.progress.done,
+        },
     }
 }
 

@@ -11,17 +11,13 @@ use collector::{Collector, Taken};
 fn in_numbers(t: Turned) -> TurnNumbered
     ensures { result ≡ turn_numbered t }
 {
-    let board = t.board;
-    let collector = t.collector;
-    let handed = t.handed;
-    let taken = Taken {
-        collector,
-        polls: t.polls,
-        handed,
-    };
     TurnNumbered {
-        board,
-        taken: numbers_collector::in_numbers(taken),
+        board: t.board,
+        taken: numbers_collector::in_numbers(Taken {
+            collector: t.collector,
+            polls: t.polls,
+            handed: t.handed,
+        }),
     }
 }
 

@@ -1,13 +1,12 @@
 -- The collector's answers in records of numbers. The specification, "The collector"; what a kind does not have is 0.
-use Rattle.std.specs.Prelude.{ℕ, eqb, pos, if◌then◌else◌}
+use Rattle.std.specs.Prelude.{ℕ, Result, Ok, Err, eqb, pos, if◌then◌else◌}
+use Rattle.base.specs.declared.Refusal.{Refusal}
 use Rattle.collector_phases.specs.declared.Collector.{Collector}
 use Rattle.collector_answers.specs.declared.BusAnswer.{BusAnswer}
 use Rattle.collector_answers.specs.declared.BusAnswer.TheVariants as bus
 use Rattle.samples.specs.declared.Sample.{Sample}
-use Rattle.collector_records.specs.declared.Started.{Started}
-use Rattle.collector_records.specs.declared.Started.TheVariants.{Begun, NotBegun}
 use Rattle.collector_phases.specs.declared.Access.{Access}
-use Rattle.collector_phases.specs.declared.Access.TheVariants.{WriteByte, ReadByte, ReadWord, NoAccess}
+use Rattle.collector_phases.specs.declared.Access.TheVariants.{WriteByte, ReadByte, ReadWord}
 use Rattle.collector_steps.specs.declared.Handed.{Handed}
 use Rattle.collector_steps.specs.declared.Handed.TheVariants.{Nothing, StartEnd, OneSample, LastSample, Refused}
 use Rattle.collector_steps.specs.declared.Taken.{Taken}
@@ -27,16 +26,16 @@ no_collector = record {
   left = 0;
 }
 
-abbrev pub start_answer : Started → StartAnswer
-start_answer (Begun c) = record { collector = c; refusal = 0 }
-start_answer (NotBegun number) = record { collector = no_collector; refusal = number }
+abbrev pub start_answer : Result Collector Refusal → StartAnswer
+start_answer (Ok c) = record { collector = c; refusal = 0 }
+start_answer (Err e) = record { collector = no_collector; refusal = e.number }
 
 -- ---- the access that is named: 0 none, 1 byte write, 2 byte read, 3 word read
-abbrev pub access_named : Access → AccessNamed
-access_named (WriteByte offset value) = record { kind = 1; offset = offset; value = value; refusal = 0 }
-access_named (ReadByte offset) = record { kind = 2; offset = offset; value = 0; refusal = 0 }
-access_named (ReadWord offset) = record { kind = 3; offset = offset; value = 0; refusal = 0 }
-access_named (NoAccess number) = record { kind = 0; offset = 0; value = 0; refusal = number }
+abbrev pub access_named : Result Access Refusal → AccessNamed
+access_named (Ok (WriteByte offset value)) = record { kind = 1; offset = offset; value = value; refusal = 0 }
+access_named (Ok (ReadByte offset)) = record { kind = 2; offset = offset; value = 0; refusal = 0 }
+access_named (Ok (ReadWord offset)) = record { kind = 3; offset = offset; value = 0; refusal = 0 }
+access_named (Err e) = record { kind = 0; offset = 0; value = 0; refusal = e.number }
 
 -- ---- what came of it: of kind 0 the number that the bus brought; of kind 2 nothing; of any other, the refusal of the board
 abbrev pub bus_answer : BusNumbers → BusAnswer

@@ -9,7 +9,8 @@ ghost use Rattle.collector.specs.Handed.{handed_refusal};
 ghost use Rattle.samples.specs.Scans.{whole_scans};
 ghost use Rattle.numbers_collector.specs.Collecting.{no_collector, start_answer, access_named, bus_answer, sample_handed, kind_handed, taken_answer};
 
-use collector::{Access, BusAnswer, Collector, Handed, Sample, Settings, Started, Taken};
+use base::Refusal;
+use collector::{Access, BusAnswer, Collector, Handed, Sample, Settings, Taken};
 
 // A start: the record and 0, or no record and the refusal.
 #[repr(C)]
@@ -54,16 +55,15 @@ pub struct TakenAnswer {
 fn no_collector() -> Collector
     ensures { result ≡ no_collector }
 {
-    let settings = Settings {
-        low: 0,
-        high: 0,
-        jumpers: 0,
-        range: 0,
-        clock: 0,
-        limit: 0,
-    };
     Collector {
-        settings: settings,
+        settings: Settings {
+            low: 0,
+            high: 0,
+            jumpers: 0,
+            range: 0,
+            clock: 0,
+            limit: 0,
+        },
         phase: 0,
         next: 0,
         polls: 0,
@@ -71,17 +71,17 @@ fn no_collector() -> Collector
     }
 }
 
-fn answer_start(s: Started) -> StartAnswer
+fn answer_start(s: Result<Collector, Refusal>) -> StartAnswer
     ensures { result ≡ start_answer s }
 {
     match s {
-        Started::Begun(c) => StartAnswer {
-            collector: c,
+        Ok(collector) => StartAnswer {
+            collector,
             refusal: 0,
         },
-        Started::NotBegun(number) => StartAnswer {
+        Err(refusal) => StartAnswer {
             collector: no_collector(),
-            refusal: number as u16,
+            refusal: refusal.number as u16,
         },
     }
 }
@@ -93,33 +93,33 @@ pub fn start(settings: Settings) -> StartAnswer
     answer_start(collector::start(settings))
 }
 
-fn name_access(x: Access) -> AccessNamed
+fn name_access(x: Result<Access, Refusal>) -> AccessNamed
     ensures { result ≡ access_named x }
 {
     match x {
-        Access::WriteByte { offset, value } => AccessNamed {
+        Ok(Access::WriteByte { offset, value }) => AccessNamed {
             kind: 1,
-            offset: offset,
-            value: value,
+            offset,
+            value,
             refusal: 0,
         },
-        Access::ReadByte { offset } => AccessNamed {
+        Ok(Access::ReadByte { offset }) => AccessNamed {
             kind: 2,
-            offset: offset,
+            offset,
             value: 0,
             refusal: 0,
         },
-        Access::ReadWord { offset } => AccessNamed {
+        Ok(Access::ReadWord { offset }) => AccessNamed {
             kind: 3,
-            offset: offset,
+            offset,
             value: 0,
             refusal: 0,
         },
-        Access::NoAccess(number) => AccessNamed {
+        Err(refusal) => AccessNamed {
             kind: 0,
             offset: 0,
             value: 0,
-            refusal: number,
+            refusal: refusal.number,
         },
     }
 }
@@ -147,11 +147,8 @@ fn refusal_handed(h: Handed) -> u8
     ensures { result ≡ handed_refusal h }
 {
     match h {
-        Handed::Nothing => 0,
-        Handed::StartEnd => 0,
-        Handed::OneSample(_) => 0,
-        Handed::LastSample(_) => 0,
         Handed::Refused(number) => number,
+        _ => 0,
     }
 }
 
@@ -163,11 +160,9 @@ fn sample_handed(h: Handed) -> Sample
         code: 0,
     };
     match h {
-        Handed::Nothing => none,
-        Handed::StartEnd => none,
         Handed::OneSample(s) => s,
         Handed::LastSample(s) => s,
-        Handed::Refused(_) => none,
+        _ => none,
     }
 }
 
@@ -175,15 +170,12 @@ fn sample_handed(h: Handed) -> Sample
 pub fn in_numbers(t: Taken) -> TakenAnswer
     ensures { result ≡ taken_answer t }
 {
-    let after = t.collector;
-    let polls = t.polls;
-    let h = t.handed;
     TakenAnswer {
-        collector: after,
-        polls: polls,
-        handed: kind_handed(h),
-        refusal: refusal_handed(h),
-        sample: sample_handed(h),
+        collector: t.collector,
+        polls: t.polls,
+        handed: kind_handed(t.handed),
+        refusal: refusal_handed(t.handed),
+        sample: sample_handed(t.handed),
     }
 }
 
@@ -210,6 +202,5 @@ pub fn take(c: Collector, brought: BusNumbers) -> TakenAnswer
 pub fn whole_length(samples: &[i16], low: u32, high: u32) -> usize
     ensures { result ≡ length (whole_scans samples.now low high) }
 {
-    let part = samples::whole_scans(samples, low, high);
-    part.len()
+    samples::whole_scans(samples, low, high).len()
 }

@@ -2,7 +2,7 @@
 // one of them, and DACBUSY. Each function's contract is a definition of specs/Outputs.antt.
 #![tactic(auto)]
 
-ghost use Rattle.std.specs.Prelude.{◌≡◌, ◌-◌};
+ghost use Rattle.std.specs.Prelude.{◌≡◌};
 ghost use Rattle.outputs.specs.Outputs.{reset_code, code_after, updated_codes, code_on, dacbusy, update_answer};
 ghost use Rattle.outputs.specs.Outputs.{lsb_written, msb_written, updated, dac_ticked, reset_a, reset_d, reset_to, codes_with, load_of, level};
 ghost use Rattle.outputs.specs.Working.{is_working_outputs};
@@ -93,7 +93,7 @@ fn clear(codes: Codes) -> Outputs
     ensures { result ≡ reset_to codes }
 {
     Outputs {
-        codes: codes,
+        codes,
         load: Load {
             loaded: 0,
             channel: 0,
@@ -117,31 +117,28 @@ pub fn is_busy(o: Outputs) -> bool
 pub fn write_lsb(o: Outputs, v: u8) -> Outputs
     ensures { result ≡ lsb_written o v }
 {
-    let mut p = o;
-    p.lsb = v;
-    p
+    Outputs { lsb: v, ..o }
 }
 
 // A write of Base+5: the load, and DACBUSY for 100 ticks.
 pub fn write_msb(o: Outputs, v: u8) -> Outputs
     ensures { result ≡ msb_written o v }
 {
-    let mut p = o;
-    p.load = load_of(o.lsb, v);
-    p.busy = 100;
-    p
+    Outputs {
+        load: load_of(o.lsb, v),
+        busy: 100,
+        ..o
+    }
 }
 
 // The codes after a read of Base+5.
 fn update_codes(o: Outputs) -> Codes
     ensures { result ≡ updated_codes o }
 {
-    let k = o.codes;
-    let l = o.load;
-    if (l.loaded == 1) & !is_busy(o) {
-        put_code(k, l.channel, l.code)
+    if (o.load.loaded == 1) & !is_busy(o) {
+        put_code(o.codes, o.load.channel, o.load.code)
     } else {
-        k
+        o.codes
     }
 }
 
@@ -149,10 +146,10 @@ fn update_codes(o: Outputs) -> Codes
 pub fn update(o: Outputs) -> Outputs
     ensures { result ≡ updated o }
 {
-    let k = update_codes(o);
-    let mut p = o;
-    p.codes = k;
-    p
+    Outputs {
+        codes: update_codes(o),
+        ..o
+    }
 }
 
 // What a read of Base+5 answers.
@@ -164,20 +161,14 @@ pub fn update_byte(o: Outputs) -> u8
 
 // ---- time, resets, and what a host sees
 
-// One less, and 0 at 0.
-fn less(n: u8) -> u8
-    ensures { result ≡ n - 1 }
-{
-    if n == 0 { 0 } else { n - 1 }
-}
-
 // One tick of DACBUSY.
 pub fn tick(o: Outputs) -> Outputs
     ensures { result ≡ dac_ticked o }
 {
-    let mut p = o;
-    p.busy = less(o.busy);
-    p
+    Outputs {
+        busy: o.busy.saturating_sub(1),
+        ..o
+    }
 }
 
 // RESETA, and a fresh board's outputs.
@@ -191,20 +182,18 @@ pub fn reset_a(zero_scale: bool) -> Outputs
 pub fn reset_d(o: Outputs) -> Outputs
     ensures { result ≡ reset_d o }
 {
-    let k = o.codes;
-    clear(k)
+    clear(o.codes)
 }
 
 // The code of output channel n; there is none above 3, which reads 0.
 pub fn code_at(o: Outputs, n: u8) -> u16
     ensures { result ≡ code_on o.codes n }
 {
-    let k = o.codes;
     match n {
-        0 => k.out0,
-        1 => k.out1,
-        2 => k.out2,
-        3 => k.out3,
+        0 => o.codes.out0,
+        1 => o.codes.out1,
+        2 => o.codes.out2,
+        3 => o.codes.out3,
         _ => 0,
     }
 }

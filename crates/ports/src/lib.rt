@@ -2,8 +2,8 @@
 // definition of specs/Ports.antt.
 #![tactic(auto)]
 
-ghost use Rattle.std.specs.Prelude.{◌≡◌, if◌then◌else◌};
-ghost use Rattle.ports.specs.Ports.{line_of, with_line, no_lines, high_input, low_input, joined, by_line, control_taken, port_control_refused};
+ghost use Rattle.std.specs.Prelude.{◌≡◌};
+ghost use Rattle.ports.specs.Ports.{line_of, with_line, high_input, low_input, joined, by_line, control_taken, port_control_refused};
 ghost use Rattle.ports.specs.Ports.{port_control_written, control_read, latch_written, port_read, pins_set, driven, levels, reset_ports, fresh_ports};
 ghost use Rattle.ports.specs.Working.{is_working_ports};
 
@@ -50,29 +50,15 @@ fn line_of(l: Lines, q: Port) -> u8
 fn put_line(l: Lines, q: Port, v: u8) -> Lines
     ensures { result ≡ with_line l q v }
 {
-    let mut m = l;
     match q {
-        Port::PortA => {
-            m.a = v;
-            m
-        }
-        Port::PortB => {
-            m.b = v;
-            m
-        }
-        Port::PortC => {
-            m.c = v;
-            m
-        }
+        Port::PortA => Lines { a: v, ..l },
+        Port::PortB => Lines { b: v, ..l },
+        Port::PortC => Lines { c: v, ..l },
     }
 }
 
 // All bytes 0.
-fn no_lines() -> Lines
-    ensures { result ≡ no_lines }
-{
-    Lines { a: 0, b: 0, c: 0 }
-}
+const NO_LINES: Lines = Lines { a: 0, b: 0, c: 0 };
 
 // ---- the directions: 1 is input
 
@@ -94,7 +80,7 @@ fn low_input(control: u8, q: Port) -> bool
     match q {
         Port::PortA => control / 16 % 2 == 1,
         Port::PortB => control / 2 % 2 == 1,
-        Port::PortC => control / 1 % 2 == 1,
+        Port::PortC => control % 2 == 1,
     }
 }
 
@@ -105,19 +91,16 @@ fn join(high: u8, low: u8) -> u8
     high / 16 * 16 + low % 16
 }
 
-// One of two bytes.
-fn choose(t: bool, x: u8, y: u8) -> u8
-    ensures { result ≡ (if t then x else y) }
-{
-    if t { x } else { y }
-}
-
 // A byte whose lines come from `input` where the port's lines are inputs, and from `output` where they are outputs.
 fn by_line(control: u8, q: Port, input: u8, output: u8) -> u8
     ensures { result ≡ by_line control q input output }
 {
-    let high = choose(high_input(control, q), input, output);
-    let low = choose(low_input(control, q), input, output);
+    let high = if high_input(control, q) {
+        input
+    } else {
+        output
+    };
+    let low = if low_input(control, q) { input } else { output };
     join(high, low)
 }
 
@@ -144,11 +127,11 @@ pub fn write_control(p: Ports, v: u8) -> Ports
     if control_refused(v) {
         p
     } else {
-        let none = no_lines();
-        let mut n = p;
-        n.control = v;
-        n.latches = none;
-        n
+        Ports {
+            control: v,
+            latches: NO_LINES,
+            ..p
+        }
     }
 }
 
@@ -165,29 +148,27 @@ pub fn read_control(p: Ports) -> u8
 pub fn write(p: Ports, q: Port, v: u8) -> Ports
     ensures { result ≡ latch_written p q v }
 {
-    let l = p.latches;
-    let mut n = p;
-    n.latches = put_line(l, q, v);
-    n
+    Ports {
+        latches: put_line(p.latches, q, v),
+        ..p
+    }
 }
 
 // A read of a port: output lines read the latch, input lines the pins.
 pub fn read(p: Ports, q: Port) -> u8
     ensures { result ≡ port_read p q }
 {
-    let l = p.latches;
-    let i = p.pins;
-    by_line(p.control, q, line_of(i, q), line_of(l, q))
+    by_line(p.control, q, line_of(p.pins, q), line_of(p.latches, q))
 }
 
 // The host sets the levels of a port's pins.
 pub fn set_pins(p: Ports, q: Port, v: u8) -> Ports
     ensures { result ≡ pins_set p q v }
 {
-    let l = p.pins;
-    let mut n = p;
-    n.pins = put_line(l, q, v);
-    n
+    Ports {
+        pins: put_line(p.pins, q, v),
+        ..p
+    }
 }
 
 // Which lines of a port the board drives.
@@ -201,8 +182,7 @@ pub fn driven_lines(p: Ports, q: Port) -> u8
 pub fn driven_levels(p: Ports, q: Port) -> u8
     ensures { result ≡ levels p q }
 {
-    let l = p.latches;
-    by_line(p.control, q, 0, line_of(l, q))
+    by_line(p.control, q, 0, line_of(p.latches, q))
 }
 
 // ---- reset, and a fresh board's ports
@@ -211,22 +191,20 @@ pub fn driven_levels(p: Ports, q: Port) -> u8
 pub fn reset(p: Ports) -> Ports
     ensures { result ≡ reset_ports p }
 {
-    let none = no_lines();
-    let mut q = p;
-    q.control = 0x9B;
-    q.latches = none;
-    q
+    Ports {
+        pins: p.pins,
+        ..fresh()
+    }
 }
 
 // A fresh board's ports.
 pub fn fresh() -> Ports
     ensures { result ≡ fresh_ports }
 {
-    let none = no_lines();
     Ports {
         control: 0x9B,
-        latches: none,
-        pins: none,
+        latches: NO_LINES,
+        pins: NO_LINES,
     }
 }
 

@@ -1,7 +1,8 @@
 // The settings of requests and the request flags (manual 11.1, 11.2, Base + 6, 7, 8, 9).
 #![tactic(auto)]
 
-ghost use Rattle.std.specs.Prelude.{◌≡◌};
+ghost use Rattle.std.specs.Prelude.{◌≡◌, ◌&&◌, ◌||◌};
+ghost use Rattle.base.specs.Flags.{on, flag};
 ghost use Rattle.requests.specs.Requests.{asked_ad, asked_latch, asked_timer, flags_cleared, asking};
 ghost use Rattle.requests.specs.Registers.{written_depth, written_fifoen, written_enables, FIFORST, mode_bits, request_bits, fresh_requests};
 ghost use Rattle.requests.specs.Working.{is_working_requests};
@@ -28,38 +29,52 @@ pub struct Requests {
     pub flags: Flags,
 }
 
+// No request flag is set.
+const NO_FLAGS: Flags = Flags {
+    adint: 0,
+    dint: 0,
+    tint: 0,
+};
+
+// A request flag after what asks for it has happened, or has not: it is set if it was, or if it happens with its enable bit set.
+fn asked(set: u8, enable: u8, happens: bool) -> u8
+    ensures { result ≡ flag (on set || on enable && happens) }
+{
+    ((set == 1) | ((enable == 1) & happens)) as u8
+}
+
 // After an end, kept or lost: `last` says that it is a single one or its scan's last, `held` how many samples are held then.
 pub fn ask_ad(r: Requests, last: bool, held: u16) -> Requests
     ensures { result ≡ asked_ad r last held }
 {
     let enough = (r.fifoen != 1) | (held >= 2 * (r.threshold as u16));
-    let mut flags = r.flags;
-    flags.adint = ((r.flags.adint == 1) | ((r.adinte == 1) & last & enough)) as u8;
-    let mut next = r;
-    next.flags = flags;
-    next
+    let flags = Flags {
+        adint: asked(r.flags.adint, r.adinte, last & enough),
+        ..r.flags
+    };
+    Requests { flags, ..r }
 }
 
 // After the Latch pin changed: `rose` says that it went high.
 pub fn ask_latch(r: Requests, rose: bool) -> Requests
     ensures { result ≡ asked_latch r rose }
 {
-    let mut flags = r.flags;
-    flags.dint = ((r.flags.dint == 1) | ((r.dinte == 1) & rose)) as u8;
-    let mut next = r;
-    next.flags = flags;
-    next
+    let flags = Flags {
+        dint: asked(r.flags.dint, r.dinte, rose),
+        ..r.flags
+    };
+    Requests { flags, ..r }
 }
 
 // After counter 0 moved: `fell` says that OUT0 went low.
 pub fn ask_timer(r: Requests, fell: bool) -> Requests
     ensures { result ≡ asked_timer r fell }
 {
-    let mut flags = r.flags;
-    flags.tint = ((r.flags.tint == 1) | ((r.tinte == 1) & fell)) as u8;
-    let mut next = r;
-    next.flags = flags;
-    next
+    let flags = Flags {
+        tint: asked(r.flags.tint, r.tinte, fell),
+        ..r.flags
+    };
+    Requests { flags, ..r }
 }
 
 // Whether a request flag is set: while one is, the board asks for an interrupt.
@@ -73,32 +88,30 @@ pub fn is_asking(flags: Flags) -> bool
 pub fn clear(r: Requests) -> Requests
     ensures { result ≡ flags_cleared r }
 {
-    let flags = Flags {
-        adint: 0,
-        dint: 0,
-        tint: 0,
-    };
-    let mut next = r;
-    next.flags = flags;
-    next
+    Requests {
+        flags: NO_FLAGS,
+        ..r
+    }
 }
 
 // A write of 6: half the threshold.
 pub fn write_depth(r: Requests, byte: u8) -> Requests
     ensures { result ≡ written_depth r byte }
 {
-    let mut next = r;
-    next.threshold = byte;
-    next
+    Requests {
+        threshold: byte,
+        ..r
+    }
 }
 
 // A write of 7: FIFOEN.
 pub fn write_fifoen(r: Requests, byte: u8) -> Requests
     ensures { result ≡ written_fifoen r byte }
 {
-    let mut next = r;
-    next.fifoen = byte / 8 % 2;
-    next
+    Requests {
+        fifoen: byte / 8 % 2,
+        ..r
+    }
 }
 
 // A write of 7: whether it resets the sample memory.
@@ -112,12 +125,13 @@ pub fn is_fiforst(byte: u8) -> bool
 pub fn write_enables(r: Requests, byte: u8) -> Requests
     ensures { result ≡ written_enables r byte }
 {
-    let mut next = r;
-    next.adinte = byte / 128 % 2;
-    next.dinte = byte / 64 % 2;
-    next.tinte = byte / 32 % 2;
-    next.clksel = byte % 2;
-    next
+    Requests {
+        adinte: byte / 128 % 2,
+        dinte: byte / 64 % 2,
+        tinte: byte / 32 % 2,
+        clksel: byte % 2,
+        ..r
+    }
 }
 
 // FIFOEN and SCANEN as they stand in the byte read at 7.
@@ -143,11 +157,6 @@ pub fn request_bits(c: Converter, r: Requests) -> u8
 pub fn fresh_requests() -> Requests
     ensures { result ≡ fresh_requests }
 {
-    let flags = Flags {
-        adint: 0,
-        dint: 0,
-        tint: 0,
-    };
     Requests {
         threshold: 0,
         fifoen: 0,
@@ -155,7 +164,7 @@ pub fn fresh_requests() -> Requests
         adinte: 0,
         dinte: 0,
         tinte: 0,
-        flags,
+        flags: NO_FLAGS,
     }
 }
 

@@ -23,8 +23,7 @@ fn talk(
     let mut turns = u64::MAX;
     while turns > 0 && more {
         let taken = pieces::take_read(rt, &mut input, session, memory, eeprom, buf, out);
-        let next = taken.session;
-        session = next;
+        session = taken.session;
         more = taken.more;
         ended = taken.ended;
         turns -= 1;

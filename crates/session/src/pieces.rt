@@ -19,7 +19,7 @@ pub struct AfterBytes {
 pub fn answer(
     rt: &impl Print,
     piece: &[u8],
-    session: Session,
+    mut session: Session,
     memory: &mut [u16],
     eeprom: &mut [u8],
     out: &mut [u8],
@@ -27,17 +27,13 @@ pub fn answer(
     requires { 64 ≤ length out.old }
     ensures { Took (talk_of session memory.old eeprom.old) piece.now memory.new eeprom.new result }
 {
-    let mut session = session;
-    let mut from: usize = 0;
+    let mut from = 0;
     let mut more = true;
     while from < piece.len() {
         let fed = session_feed::feed(&piece[from..], session, memory, eeprom, out);
-        let next = fed.session;
-        let at = fed.at;
-        let taken = fed.taken;
-        session = next;
-        from += taken;
-        more = rt.write_all(&out[..at]).is_ok() & more;
+        session = fed.session;
+        from += fed.taken;
+        more = rt.write_all(&out[..fed.at]).is_ok() & more;
     }
     AfterBytes {
         session,

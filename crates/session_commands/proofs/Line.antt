@@ -1,15 +1,15 @@
 -- Theorems that rest on theorems of specs/Line.antt, and promise as those do. What specs/Line.antt says of itself:
 -- A line read byte after byte asks for what its fields ask for, whatever its length and its bytes.
-use Rattle.std.specs.Prelude.{◌≡◌, refl, Bool, true, false, ◌&&◌, List, [], ◌∷◌, ℕ, ◌+◌, ◌*◌, ◌%◌, ◌<◌, eqb, leb, ltb, if◌then◌else◌}
-use Rattle.std.proofs.Common.{ap, sym, ◌∙◌, mod-eq_of_lt, arith, eqb-true, leb-false, ltb-true}
+use Rattle.std.specs.Prelude.{◌≡◌, refl, Bool, true, false, Option, List, [], ◌∷◌, None, Some, ℕ, ◌+◌, ◌*◌, ◌%◌, ◌<◌, eqb, leb, if◌then◌else◌}
+use Rattle.std.specs.Option.{option_map, option_map_or, option_and_then}
+use Rattle.std.proofs.Common.{ap, sym, ◌∙◌, mod-eq_of_lt, arith, eqb-true, leb-false}
 use Rattle.std.proofs.lemmas.Bool.{lt-leb}
 use Rattle.base.specs.Fields.{lowest}
 use Rattle.session_digits.specs.Digits.{digit_of, hex_of}
-use Rattle.session_commands.specs.Command.{FieldNumber, first, others, digits, alone, decimal, up_to, value, command_of}
-use Rattle.session_commands.specs.Command.FieldNumber.{none, some}
-use Rattle.session_reading.specs.Reading.{minus_taken, begun_taken, digit_taken, first_hex_taken, second_hex_taken, taken, read_from}
+use Rattle.session_commands.specs.Command.{first, others, digits, alone, decimal, up_to, value, command_of}
+use Rattle.session_reading.specs.Reading.{minus_taken, begun_taken, grown, digit_taken, first_hex_taken, second_hex_taken, taken, read_from}
+use Rattle.session_reading.proofs.Usual.{hex_small}
 use Rattle.session_commands.specs.Ends.{command_read}
-use Rattle.session_commands.specs.declared.Command.TheVariants.{NoCommand}
 use Rattle.session_reading.specs.declared.Number.{Number}
 use Rattle.session_reading.specs.declared.Number.TheVariants.{WriteOffset, ReadOffset, Code, MinusCode}
 use Rattle.session_reading.specs.declared.Reading.{Reading}
@@ -18,16 +18,16 @@ use Rattle.session_commands.specs.Rest.{numbered, first_digit, half, last, meani
 use Rattle.session_commands.proofs.Rest.{read_first}
 
 -- more digits only make a number larger
-too_large : (limit n : ℕ) (f : List ℕ) → limit < n → up_to limit (digits n f) ≡ none
+too_large : (limit n : ℕ) (f : List ℕ) → limit < n → up_to limit (digits n f) ≡ None
 unfolding digits
 too_large limit n [] h = rw (lt-leb n limit h)
-too_large limit n (b ∷ f) h = by (ltb (digit_of b) 10) (too_large limit (n * 10 + digit_of b) f (omega arith))
+too_large limit n (b ∷ f) h = by (digit_of b) (λ d. too_large limit (n * 10 + d) f (omega arith))
   where
-    by : (t : Bool) → up_to limit (digits (n * 10 + digit_of b) f) ≡ none → up_to limit (if t then digits (n * 10 + digit_of b) f else none) ≡ none
-    by true e = e
-    by false e = refl
+    by : (o : Option ℕ) → ((d : ℕ) → up_to limit (digits (n * 10 + d) f) ≡ None) → up_to limit (option_and_then (λ d. digits (n * 10 + d) f) o) ≡ None
+    by None e = refl
+    by (Some d) e = e d
 
-large : (number : Number) (n : ℕ) (f : List ℕ) (fs : List (List ℕ)) → 65535 < n → numbered number (digits n f) fs ≡ NoCommand
+large : (number : Number) (n : ℕ) (f : List ℕ) (fs : List (List ℕ)) → 65535 < n → numbered number (digits n f) fs ≡ None
 large WriteOffset n f [] h = refl
 large WriteOffset n f (v ∷ []) h = rw (too_large 99 n f (omega arith))
 large WriteOffset n f (v ∷ w ∷ fs) h = refl
@@ -42,30 +42,35 @@ large MinusCode n f (v ∷ fs) h = refl
 read_digit : (number : Number) (n b : ℕ) (f : List ℕ) (fs : List (List ℕ)) → eqb b 32 ≡ false
     → numbered number (digits n (b ∷ f)) fs ≡ meaning (digit_taken number n b) f fs
 unfolding meaning digits
-read_digit number n b f fs space = rw space (by (ltb (digit_of b) 10) (leb (n * 10 + digit_of b) 65535) refl)
+read_digit number n b f fs space = rw space (by (digit_of b))
   where
-    by : (t u : Bool) → leb (n * 10 + digit_of b) 65535 ≡ u
-        → numbered number (if t then digits (n * 10 + digit_of b) f else none) fs
-        ≡ meaning (if t then (if u then Digits number (n * 10 + digit_of b) else Spoiled) else Spoiled) f fs
-    by true true e = refl
-    by true false e = large number (n * 10 + digit_of b) f fs (leb-false (n * 10 + digit_of b) 65535 e)
-    by false u e = no_number number fs
+    one : (d : ℕ) (t : Bool) → leb (n * 10 + d) 65535 ≡ t
+        → numbered number (digits (n * 10 + d) f) fs ≡ meaning (if t then Digits number (n * 10 + d) else Spoiled) f fs
+    one d true e = refl
+    one d false e = large number (n * 10 + d) f fs (leb-false (n * 10 + d) 65535 e)
+
+    by : (o : Option ℕ) → numbered number (option_and_then (λ d. digits (n * 10 + d) f) o) fs ≡ meaning (option_map_or (grown number n) o Spoiled) f fs
+    by None = no_number number fs
+    by (Some d) = one d (leb (n * 10 + d) 65535) refl
 
 -- the first digit of a number
 decimal-first : (number : Number) (b : ℕ) (f : List ℕ) (fs : List (List ℕ))
     → numbered number (decimal (b ∷ f)) fs
-    ≡ meaning (if eqb (digit_of b) 0 then Zero number else if ltb (digit_of b) 10 then Digits number (digit_of b) else Spoiled) f fs
+    ≡ meaning (option_map_or (λ d. if eqb d 0 then Zero number else Digits number d) (digit_of b) Spoiled) f fs
 unfolding meaning
-decimal-first number b f fs = by (eqb (digit_of b) 0) (ltb (digit_of b) 10)
+decimal-first number b f fs = by (digit_of b)
   where
-    by : (z t : Bool) → numbered number (if z then alone f else if t then digits (digit_of b) f else none) fs
-        ≡ meaning (if z then Zero number else if t then Digits number (digit_of b) else Spoiled) f fs
-    by true t = refl
-    by false true = refl
-    by false false = no_number number fs
+    one : (d : ℕ) (z : Bool) → numbered number (if z then alone f else digits d f) fs ≡ meaning (if z then Zero number else Digits number d) f fs
+    one d true = refl
+    one d false = refl
+
+    by : (o : Option ℕ) → numbered number (option_and_then (λ d. if eqb d 0 then alone f else digits d f) o) fs
+        ≡ meaning (option_map_or (λ d. if eqb d 0 then Zero number else Digits number d) o Spoiled) f fs
+    by None = no_number number fs
+    by (Some d) = one d (eqb d 0)
 
 -- a minus is no digit
-minus-none : (number : Number) (f : List ℕ) (fs : List (List ℕ)) → numbered number (decimal (45 ∷ f)) fs ≡ NoCommand
+minus-none : (number : Number) (f : List ℕ) (fs : List (List ℕ)) → numbered number (decimal (45 ∷ f)) fs ≡ None
 unfolding digit_of
 minus-none number f fs = no_number number fs
 
@@ -92,49 +97,42 @@ read-begun number b f fs = by (eqb b 45) refl
         → first_digit number (b ∷ f) fs
         ≡ meaning
         (if t then minus_taken number
-        else if eqb (digit_of b) 0 then Zero number
-        else if ltb (digit_of b) 10 then Digits number (digit_of b)
-        else Spoiled) f fs
+        else option_map_or (λ d. if eqb d 0 then Zero number else Digits number d) (digit_of b) Spoiled) f fs
     by true e = ap (λ (n : ℕ). first_digit number (n ∷ f) fs) (eqb-true b 45 e) ∙ read-minus number f fs
     by false e = read-other number b f fs e ∙ decimal-first number b f fs
 
-no_value : (offset : ℕ) (fs : List (List ℕ)) → last offset none fs ≡ NoCommand
+no_value : (offset : ℕ) (fs : List (List ℕ)) → last offset None fs ≡ None
 no_value offset [] = refl
 no_value offset (f ∷ fs) = refl
 
 -- the digits of a value
 read_hex : (offset b : ℕ) (f : List ℕ) (fs : List (List ℕ)) → last offset (value (b ∷ f)) fs ≡ meaning (first_hex_taken offset b) f fs
 unfolding meaning
-read_hex offset b f fs = by (ltb (hex_of b) 16) refl f
+read_hex offset b f fs = by (hex_of b) refl f
   where
-    both : (l : ℕ) (t : Bool) → ltb (hex_of b) 16 ≡ true
-        → (if ltb (hex_of b) 16 && t then some (hex_of b * 16 + hex_of l) else none) ≡ (if t then some (hex_of b % 16 * 16 + hex_of l) else none)
-    both l true e = let m : hex_of b % 16 ≡ hex_of b = mod-eq_of_lt (ltb-true (hex_of b) 16 e) in rw (e, m)
-    both l false e = rw e
-
-    by : (t : Bool) → ltb (hex_of b) 16 ≡ t → (f : List ℕ) → last offset (value (b ∷ f)) fs ≡ meaning (if t then HalfValue offset (hex_of b) else Spoiled) f fs
-    by true e [] = refl
-    by true e (l ∷ []) = ap (λ (v : FieldNumber). last offset v fs) (both l (ltb (hex_of l) 16) e)
-    by true e (l ∷ c ∷ f) = refl
-    by false e [] = no_value offset fs
-    by false e (l ∷ []) = ap (λ (v : FieldNumber). last offset v fs) {y = none} (rw e) ∙ no_value offset fs
-    by false e (l ∷ c ∷ f) = no_value offset fs
+    by : (o : Option ℕ) → hex_of b ≡ o → (f : List ℕ) → last offset (value (b ∷ f)) fs ≡ meaning (option_map_or (HalfValue offset) o Spoiled) f fs
+    by None e [] = no_value offset fs
+    by None e (l ∷ []) = rw e (no_value offset fs)
+    by None e (l ∷ c ∷ f) = no_value offset fs
+    by (Some d) e [] = refl
+    by (Some d) e (l ∷ []) = let m : d % 16 ≡ d = mod-eq_of_lt (hex_small b e) in rw (e, m)
+    by (Some d) e (l ∷ c ∷ f) = refl
 
 read-second : (offset high b : ℕ) (f : List ℕ) (fs : List (List ℕ)) → last offset (half high (b ∷ f)) fs ≡ meaning (second_hex_taken offset high b) f fs
 unfolding meaning
-read-second offset high b [] fs = by (ltb (hex_of b) 16) fs
+read-second offset high b [] fs = by (hex_of b) fs
   where
-    by : (t : Bool) (fs : List (List ℕ))
-        → last offset (if t then some (lowest 4 high * 16 + hex_of b) else none) fs
-        ≡ meaning (if t then Whole offset (lowest 4 high * 16 + hex_of b) else Spoiled) [] fs
-    by true [] = refl
-    by true (g ∷ fs) = refl
-    by false fs = no_value offset fs
-read-second offset high b (c ∷ f) fs = by (ltb (hex_of b) 16)
+    by : (o : Option ℕ) (fs : List (List ℕ))
+        → last offset (option_map (λ low. lowest 4 high * 16 + low) o) fs
+        ≡ meaning (option_map_or (λ low. Whole offset (lowest 4 high * 16 + low)) o Spoiled) [] fs
+    by None fs = no_value offset fs
+    by (Some low) [] = refl
+    by (Some low) (g ∷ fs) = refl
+read-second offset high b (c ∷ f) fs = by (hex_of b)
   where
-    by : (t : Bool) → last offset none fs ≡ meaning (if t then Whole offset (lowest 4 high * 16 + hex_of b) else Spoiled) (c ∷ f) fs
-    by true = no_value offset fs
-    by false = no_value offset fs
+    by : (o : Option ℕ) → last offset None fs ≡ meaning (option_map_or (λ low. Whole offset (lowest 4 high * 16 + low)) o Spoiled) (c ∷ f) fs
+    by None = no_value offset fs
+    by (Some low) = no_value offset fs
 
 -- ---- any other byte
 read_byte : (r : Reading) (b : ℕ) (f : List ℕ) (fs : List (List ℕ)) → eqb b 32 ≡ false → meaning r (b ∷ f) fs ≡ meaning (taken r b) f fs

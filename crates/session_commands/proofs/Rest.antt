@@ -1,20 +1,19 @@
 -- Theorems that rest on theorems of specs/Rest.antt, and promise as those do. What specs/Rest.antt says of itself:
 -- What the rest of a line means after what was read of it: at the line's end, after a space, and after its first byte.
-use Rattle.std.specs.Prelude.{◌≡◌, refl, Bool, true, false, List, [], ◌∷◌, ℕ, eqb, if◌then◌else◌}
+use Rattle.std.specs.Prelude.{◌≡◌, refl, Bool, true, false, List, [], ◌∷◌, None, ℕ, eqb, if◌then◌else◌}
 use Rattle.std.proofs.Common.{ap, ◌∙◌, eqb-true}
 use Rattle.session_commands.specs.Command.{decimal, up_to, value, write_at, command_in}
 use Rattle.session_reading.specs.Reading.{first_taken}
-use Rattle.session_commands.specs.declared.Command.TheVariants.{NoCommand}
 use Rattle.session_reading.specs.declared.Number.TheVariants.{WriteOffset, ReadOffset, Code}
 use Rattle.session_reading.specs.declared.Reading.TheVariants.{Letter, Single, Spoiled}
 use Rattle.session_commands.specs.Rest.{Letters, meaning}
 
 -- ---- another byte
 no_letter : (b : ℕ) → eqb b 87 ≡ false → eqb b 82 ≡ false → eqb b 67 ≡ false → eqb b 88 ≡ false → (f : List ℕ) (fs : List (List ℕ))
-    → command_in (b ∷ f) fs ≡ NoCommand
+    → command_in (b ∷ f) fs ≡ None
 no_letter b w r c x [] [] = rw x
 no_letter b w r c x [] (f ∷ []) = rw (r, c)
-no_letter b w r c x [] (f ∷ v ∷ []) = ap (λ (t : Bool). if t then write_at (up_to 99 (decimal f)) (value v) else NoCommand) w
+no_letter b w r c x [] (f ∷ v ∷ []) = ap (λ (t : Bool). if t then write_at (up_to 99 (decimal f)) (value v) else None) w
 no_letter b w r c x [] (f ∷ v ∷ g ∷ fs) = refl
 no_letter b w r c x (d ∷ l) [] = refl
 no_letter b w r c x (d ∷ l) (f ∷ []) = refl

@@ -1,8 +1,9 @@
 -- A line read byte after byte asks for what its fields ask for, whatever its length and its bytes.
-use Rattle.std.specs.Prelude.{◌≡◌, refl, Bool, true, false, ℕ, ◌+◌, ◌*◌, eqb, leb, ltb, if◌then◌else◌}
+use Rattle.std.specs.Prelude.{◌≡◌, refl, Bool, true, false, ℕ, ◌+◌, ◌*◌, Option, None, Some, eqb, leb, if◌then◌else◌}
+use Rattle.std.specs.Option.{option_map_or}
 use Rattle.base.specs.Fields.{lowest}
 use Rattle.session_digits.specs.Digits.{digit_of, hex_of}
-use Rattle.session_reading.specs.Reading.{minus_taken, number_ended, taken}
+use Rattle.session_reading.specs.Reading.{minus_taken, number_ended, grown, taken}
 use Rattle.session_commands.specs.Ends.{is_begun}
 use Rattle.session_reading.specs.declared.Number.{Number}
 use Rattle.session_reading.specs.declared.Number.TheVariants.{WriteOffset, ReadOffset, Code, MinusCode}
@@ -13,6 +14,11 @@ use Rattle.session_reading.specs.declared.Reading.TheVariants.{Blank, Letter, Be
 if_begun : (t : Bool) (a b : Reading) → is_begun a ≡ true → is_begun b ≡ true → is_begun (if t then a else b) ≡ true
 if_begun true a b p q = p
 if_begun false a b p q = q
+
+maybe_begun : (f : ℕ → Reading) (d : Option ℕ) → ((x : ℕ) → is_begun (f x) ≡ true) → is_begun (option_map_or f d Spoiled) ≡ true
+unfolding is_begun
+maybe_begun f None h = refl
+maybe_begun f (Some x) h = h x
 
 minus-begun : (number : Number) → is_begun (minus_taken number) ≡ true
 unfolding is_begun
@@ -36,13 +42,13 @@ taken-begun Blank b =
 taken-begun (Letter number) b = if_begun (eqb b 32) (Begun number) Spoiled refl refl
 taken-begun (Begun number) b =
     if_begun (eqb b 45) (minus_taken number) _ (minus-begun number)
-    (if_begun (eqb (digit_of b) 0) (Zero number) _ refl (if_begun (ltb (digit_of b) 10) (Digits number (digit_of b)) Spoiled refl refl))
+    (maybe_begun (λ d. if eqb d 0 then Zero number else Digits number d) (digit_of b) (λ d. if_begun (eqb d 0) (Zero number) (Digits number d) refl refl))
 taken-begun (Zero number) b = if_begun (eqb b 32) (number_ended number 0) Spoiled (ended-begun number 0) refl
 taken-begun (Digits number n) b =
     if_begun (eqb b 32) (number_ended number n) _ (ended-begun number n)
-    (if_begun (ltb (digit_of b) 10) _ Spoiled (if_begun (leb (n * 10 + digit_of b) 65535) (Digits number (n * 10 + digit_of b)) Spoiled refl refl) refl)
-taken-begun (Offset offset) b = if_begun (ltb (hex_of b) 16) (HalfValue offset (hex_of b)) Spoiled refl refl
-taken-begun (HalfValue offset high) b = if_begun (ltb (hex_of b) 16) (Whole offset (lowest 4 high * 16 + hex_of b)) Spoiled refl refl
+    (maybe_begun (grown number n) (digit_of b) (λ d. if_begun (leb (n * 10 + d) 65535) (Digits number (n * 10 + d)) Spoiled refl refl))
+taken-begun (Offset offset) b = maybe_begun (HalfValue offset) (hex_of b) (λ d. refl)
+taken-begun (HalfValue offset high) b = maybe_begun (λ low. Whole offset (lowest 4 high * 16 + low)) (hex_of b) (λ d. refl)
 taken-begun (Whole offset v) b = refl
 taken-begun Single b = refl
 taken-begun Spoiled b = refl

@@ -1,13 +1,13 @@
 -- What the rest of a line means after what was read of it: at the line's end, after a space, and after its first byte.
-use Rattle.std.specs.Prelude.{◌≡◌, refl, Bool, true, false, List, [], ◌∷◌, ℕ, ◌+◌, ◌*◌, leb, ltb, if◌then◌else◌}
+use Rattle.std.specs.Prelude.{◌≡◌, refl, Bool, true, false, List, [], ◌∷◌, Option, None, Some, ℕ, ◌+◌, ◌*◌, leb, if◌then◌else◌}
+use Rattle.std.specs.Option.{option_map}
 use Rattle.base.specs.Fields.{lowest}
 use Rattle.session_digits.specs.Digits.{digit_of, hex_of}
 use Rattle.session_commands.specs.Command.{minus, FieldNumber, digits, alone, decimal, up_to, negated, code, value, write_at, read_at, end_with, command_in}
-use Rattle.session_commands.specs.Command.FieldNumber.{none, some}
 use Rattle.session_reading.specs.Reading.{taken}
 use Rattle.session_commands.specs.Ends.{command_read}
 use Rattle.session_commands.specs.declared.Command.{Command}
-use Rattle.session_commands.specs.declared.Command.TheVariants.{WriteByte, ReadByte, ReadWord, EndConversion, NoCommand}
+use Rattle.session_commands.specs.declared.Command.TheVariants.{WriteByte, ReadByte, ReadWord, EndConversion}
 use Rattle.session_reading.specs.declared.Number.{Number}
 use Rattle.session_reading.specs.declared.Number.TheVariants.{WriteOffset, ReadOffset, Code, MinusCode}
 use Rattle.session_reading.specs.declared.Reading.{Reading}
@@ -15,45 +15,45 @@ use Rattle.session_reading.specs.declared.Reading.TheVariants.{Blank, Letter, Be
 
 -- ---- what the rest of a line means after what was read: the rest of the field, and the fields after it
 -- a number whose field is n, the last one but for an offset of W
-abbrev pub numbered : Number → FieldNumber → List (List ℕ) → Command
-numbered WriteOffset n [] = NoCommand
+abbrev pub numbered : Number → FieldNumber → List (List ℕ) → Option Command
+numbered WriteOffset n [] = None
 numbered WriteOffset n (v ∷ []) = write_at (up_to 99 n) (value v)
-numbered WriteOffset n (v ∷ w ∷ fs) = NoCommand
+numbered WriteOffset n (v ∷ w ∷ fs) = None
 numbered ReadOffset n [] = read_at (up_to 99 n)
-numbered ReadOffset n (v ∷ fs) = NoCommand
+numbered ReadOffset n (v ∷ fs) = None
 numbered Code n [] = end_with (up_to 32767 n)
-numbered Code n (v ∷ fs) = NoCommand
+numbered Code n (v ∷ fs) = None
 numbered MinusCode n [] = end_with (negated (up_to 32768 n))
-numbered MinusCode n (v ∷ fs) = NoCommand
+numbered MinusCode n (v ∷ fs) = None
 
 -- a number before its first digit: only a code may have a minus
-abbrev pub first_digit : Number → List ℕ → List (List ℕ) → Command
+abbrev pub first_digit : Number → List ℕ → List (List ℕ) → Option Command
 first_digit WriteOffset f fs = numbered WriteOffset (decimal f) fs
 first_digit ReadOffset f fs = numbered ReadOffset (decimal f) fs
 first_digit Code f [] = end_with (code f)
-first_digit Code f (v ∷ fs) = NoCommand
+first_digit Code f (v ∷ fs) = None
 first_digit MinusCode f fs = numbered MinusCode (decimal f) fs
 
-abbrev pub lettered : Number → List ℕ → List (List ℕ) → Command
-lettered number [] [] = NoCommand
+abbrev pub lettered : Number → List ℕ → List (List ℕ) → Option Command
+lettered number [] [] = None
 lettered number [] (f ∷ fs) = first_digit number f fs
-lettered number (b ∷ l) fs = NoCommand
+lettered number (b ∷ l) fs = None
 
 abbrev pub half : ℕ → List ℕ → FieldNumber
-half high [] = none
-half high (l ∷ []) = if ltb (hex_of l) 16 then some (lowest 4 high * 16 + hex_of l) else none
-half high (l ∷ b ∷ f) = none
+half high [] = None
+half high (l ∷ []) = option_map (λ low. lowest 4 high * 16 + low) (hex_of l)
+half high (l ∷ b ∷ f) = None
 
-abbrev pub nothing_more : Command → List ℕ → List (List ℕ) → Command
-nothing_more c [] [] = c
-nothing_more c [] (f ∷ fs) = NoCommand
-nothing_more c (b ∷ f) fs = NoCommand
+abbrev pub nothing_more : Command → List ℕ → List (List ℕ) → Option Command
+nothing_more c [] [] = Some c
+nothing_more c [] (f ∷ fs) = None
+nothing_more c (b ∷ f) fs = None
 
-abbrev pub last : ℕ → FieldNumber → List (List ℕ) → Command
-last offset v [] = write_at (some offset) v
-last offset v (f ∷ fs) = NoCommand
+abbrev pub last : ℕ → FieldNumber → List (List ℕ) → Option Command
+last offset v [] = write_at (Some offset) v
+last offset v (f ∷ fs) = None
 
-unfoldable pub meaning : Reading → List ℕ → List (List ℕ) → Command
+unfoldable pub meaning : Reading → List ℕ → List (List ℕ) → Option Command
 meaning Blank f fs = command_in f fs
 meaning (Letter number) f fs = lettered number f fs
 meaning (Begun number) f fs = first_digit number f fs
@@ -63,9 +63,9 @@ meaning (Offset offset) f fs = last offset (value f) fs
 meaning (HalfValue offset high) f fs = last offset (half high f) fs
 meaning (Whole offset v) f fs = nothing_more (WriteByte offset v) f fs
 meaning Single f fs = nothing_more ReadWord f fs
-meaning Spoiled f fs = NoCommand
+meaning Spoiled f fs = None
 
-pub no_number : (number : Number) (fs : List (List ℕ)) → numbered number none fs ≡ NoCommand
+pub no_number : (number : Number) (fs : List (List ℕ)) → numbered number None fs ≡ None
 no_number WriteOffset [] = refl
 no_number WriteOffset (v ∷ []) = refl
 no_number WriteOffset (v ∷ w ∷ fs) = refl
@@ -92,17 +92,17 @@ read-end (Zero MinusCode) = refl
 read-end (Digits WriteOffset n) = refl
 read-end (Digits ReadOffset n) = by (leb n 99)
   where
-    by : (t : Bool) → (if t then ReadByte n else NoCommand) ≡ read_at (if t then some n else none)
+    by : (t : Bool) → (if t then Some (ReadByte n) else None) ≡ read_at (if t then Some n else None)
     by true = refl
     by false = refl
 read-end (Digits Code n) = by (leb n 32767)
   where
-    by : (t : Bool) → (if t then EndConversion n else NoCommand) ≡ end_with (if t then some n else none)
+    by : (t : Bool) → (if t then Some (EndConversion n) else None) ≡ end_with (if t then Some n else None)
     by true = refl
     by false = refl
 read-end (Digits MinusCode n) = by (leb n 32768)
   where
-    by : (t : Bool) → (if t then EndConversion (minus n) else NoCommand) ≡ end_with (negated (if t then some n else none))
+    by : (t : Bool) → (if t then Some (EndConversion (minus n)) else None) ≡ end_with (negated (if t then Some n else None))
     by true = refl
     by false = refl
 read-end (Offset offset) = refl
@@ -130,12 +130,12 @@ read_space (Zero Code) f fs = refl
 read_space (Zero MinusCode) f fs = refl
 read_space (Digits WriteOffset n) f [] = by (leb n 99)
   where
-    by : (t : Bool) → write_at (if t then some n else none) (value f) ≡ meaning (if t then Offset n else Spoiled) f []
+    by : (t : Bool) → write_at (if t then Some n else None) (value f) ≡ meaning (if t then Offset n else Spoiled) f []
     by true = refl
     by false = refl
 read_space (Digits WriteOffset n) f (v ∷ fs) = by (leb n 99)
   where
-    by : (t : Bool) → NoCommand ≡ meaning (if t then Offset n else Spoiled) f (v ∷ fs)
+    by : (t : Bool) → None ≡ meaning (if t then Offset n else Spoiled) f (v ∷ fs)
     by true = refl
     by false = refl
 read_space (Digits ReadOffset n) f fs = refl

@@ -14,63 +14,44 @@ pub enum Command {
     ReadByte { offset: u8 },
     ReadWord,
     EndConversion { sample: u16 },
-    NoCommand,
 }
 
 // The 16 bits of the code -n.
 fn negative(n: u16) -> u16
     ensures { result ≡ minus n }
 {
-    if n == 0 { 0 } else { 65535 - (n - 1) }
+    0u16.wrapping_sub(n)
 }
 
-fn command_of(number: Number, n: u16) -> Command
+fn command_of(number: Number, n: u16) -> Option<Command>
     ensures { result ≡ number_read number n }
 {
     match number {
-        Number::WriteOffset => Command::NoCommand,
-        Number::ReadOffset => {
-            if n <= 99 {
-                Command::ReadByte { offset: n as u8 }
-            } else {
-                Command::NoCommand
-            }
-        }
-        Number::Code => {
-            if n <= 32767 {
-                Command::EndConversion { sample: n }
-            } else {
-                Command::NoCommand
-            }
-        }
-        Number::MinusCode => {
-            if n <= 32768 {
-                Command::EndConversion {
-                    sample: negative(n),
-                }
-            } else {
-                Command::NoCommand
-            }
-        }
+        Number::ReadOffset if n <= 99 => Some(Command::ReadByte { offset: n as u8 }),
+        Number::Code if n <= 32767 => Some(Command::EndConversion { sample: n }),
+        Number::MinusCode if n <= 32768 => Some(Command::EndConversion {
+            sample: negative(n),
+        }),
+        _ => None,
     }
 }
 
 // What a line asks for that ends here.
 #[tactic(auto, unfolding(crate::specs::Ends::command_read))]
-pub fn command_at(reading: Reading) -> Command
+pub fn command_at(reading: Reading) -> Option<Command>
     ensures { result ≡ command_read reading }
 {
     match reading {
-        Reading::Blank => Command::NoCommand,
-        Reading::Letter(_) => Command::NoCommand,
-        Reading::Begun(_) => Command::NoCommand,
+        Reading::Blank => None,
+        Reading::Letter(_) => None,
+        Reading::Begun(_) => None,
         Reading::Zero(number) => command_of(number, 0),
         Reading::Digits(number, n) => command_of(number, n),
-        Reading::Offset(_) => Command::NoCommand,
-        Reading::HalfValue(_, _) => Command::NoCommand,
-        Reading::Whole(offset, value) => Command::WriteByte { offset, value },
-        Reading::Single => Command::ReadWord,
-        Reading::Spoiled => Command::NoCommand,
+        Reading::Offset(_) => None,
+        Reading::HalfValue(_, _) => None,
+        Reading::Whole(offset, value) => Some(Command::WriteByte { offset, value }),
+        Reading::Single => Some(Command::ReadWord),
+        Reading::Spoiled => None,
     }
 }
 
@@ -79,16 +60,5 @@ pub fn command_at(reading: Reading) -> Command
 pub fn is_begun(reading: Reading) -> bool
     ensures { result ≡ is_begun reading }
 {
-    match reading {
-        Reading::Blank => false,
-        Reading::Letter(_) => true,
-        Reading::Begun(_) => true,
-        Reading::Zero(_) => true,
-        Reading::Digits(_, _) => true,
-        Reading::Offset(_) => true,
-        Reading::HalfValue(_, _) => true,
-        Reading::Whole(_, _) => true,
-        Reading::Single => true,
-        Reading::Spoiled => true,
-    }
+    !matches!(reading, Reading::Blank)
 }

@@ -4,27 +4,26 @@
 ghost use Rattle.std.specs.Prelude.{◌≡◌};
 ghost use Rattle.session_digits.specs.Digits.{digit_of, hex_of, hex_digit};
 
-// The value of a decimal digit; 10 for another byte.
-pub fn digit_of(byte: u8) -> u8
+// The value of a decimal digit; none for another byte.
+#[tactic(auto, unfolding(crate::specs::Digits::digit_of))]
+pub fn digit_of(byte: u8) -> Option<u8>
     ensures { result ≡ digit_of byte }
 {
-    if (48 <= byte) & (byte <= 57) {
-        byte - 48
-    } else {
-        10
+    match byte {
+        b'0'..=b'9' => Some(byte - b'0'),
+        _ => None,
     }
 }
 
-// The value of a hex digit of either case; 16 for another byte.
-pub fn hex_of(byte: u8) -> u8
+// The value of a hex digit of either case; none for another byte.
+#[tactic(auto, unfolding(crate::specs::Digits::hex_of))]
+pub fn hex_of(byte: u8) -> Option<u8>
     ensures { result ≡ hex_of byte }
 {
-    if (48 <= byte) & (byte <= 57) {
-        byte - 48
-    } else if (65 <= byte) & (byte <= 70) | (97 <= byte) & (byte <= 102) {
-        byte % 16 + 9
-    } else {
-        16
+    match byte {
+        b'0'..=b'9' => Some(byte - b'0'),
+        b'A'..=b'F' | b'a'..=b'f' => Some(byte % 16 + 9),
+        _ => None,
     }
 }
 

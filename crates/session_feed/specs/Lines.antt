@@ -1,7 +1,8 @@
 -- What is printed for a text is what its lines print, one after the other, however the text came in pieces, with or without a last newline.
 -- The specification, "The session program": "the last line may lack its newline".
-use Rattle.std.specs.Prelude.{◌≡◌, refl, Bool, true, false, List, [], ◌∷◌, ◌++◌, ℕ, ◌+◌, ◌^◌, ◌<◌, eqb, length, if◌then◌else◌}
+use Rattle.std.specs.Prelude.{◌≡◌, refl, Bool, true, false, List, [], ◌∷◌, ◌++◌, Option, None, Some, ℕ, ◌+◌, ◌^◌, ◌<◌, eqb, length, if◌then◌else◌}
 use Rattle.std.proofs.Common.{ap, sym, ◌∙◌, append_assoc, append-nil, mod-eq_of_lt, arith, eqb-true}
+use Rattle.board_events.specs.declared.Event.{Event}
 use Rattle.session_commands.specs.Command.{command_of}
 use Rattle.session_commands.specs.Line.{taken-begun}
 use Rattle.session_commands.proofs.Line.{read_line}
@@ -15,8 +16,6 @@ use Rattle.session_talk.specs.Wanted.{wanted_by}
 use Rattle.session_line.specs.Done.{done_by, said_by, line_done, line_said}
 use Rattle.session_feed.specs.Feeding.{with_reading, after, said, final, output}
 use Rattle.session_feed.specs.Pieces.{whole, printed, pieces_same}
-use Rattle.session_talk.specs.declared.Wanted.{Wanted}
-use Rattle.session_talk.specs.declared.Wanted.TheVariants.{Nothing, Happen}
 
 -- ---- the lines of a text: what stands before each newline, and after the last one if anything does
 abbrev pub begun_with : ℕ → List (List ℕ) → List (List ℕ)
@@ -89,13 +88,13 @@ joined_line : (p : List ℕ) (lines : List (List ℕ)) → joined p ([] ∷ line
 joined_line [] lines = refl
 joined_line (x ∷ p) lines = ap (λ (l : List ℕ). (x ∷ l) ∷ lines) (append-nil p)
 
-done-any : (t : Talk) (r : Reading) (a : Wanted) → done_by (with_reading t r) a ≡ done_by t a
-done-any t r Nothing = refl
-done-any t r (Happen event) = refl
+done-any : (t : Talk) (r : Reading) (a : Option Event) → done_by (with_reading t r) a ≡ done_by t a
+done-any t r None = refl
+done-any t r (Some event) = refl
 
-said-any : (t : Talk) (r : Reading) (a : Wanted) → said_by (with_reading t r) a ≡ said_by t a
-said-any t r Nothing = refl
-said-any t r (Happen event) = refl
+said-any : (t : Talk) (r : Reading) (a : Option Event) → said_by (with_reading t r) a ≡ said_by t a
+said-any t r None = refl
+said-any t r (Some event) = refl
 
 same-talk : (t : Talk) (r : Reading) (lines : List (List ℕ)) → conversation (with_reading t r) lines ≡ conversation t lines
 unfolding conversation answer after_line
@@ -114,9 +113,9 @@ one_line : (t : Talk) (line : List ℕ) → conversation t (line ∷ []) ≡ ans
 unfolding conversation
 one_line t line = append-nil (answer t line)
 
-done-blank : (t : Talk) (a : Wanted) → (done_by t a).reading ≡ Blank
-done-blank t Nothing = refl
-done-blank t (Happen event) = refl
+done-blank : (t : Talk) (a : Option Event) → (done_by t a).reading ≡ Blank
+done-blank t None = refl
+done-blank t (Some event) = refl
 
 line_blank : (t : Talk) → (line_done t).reading ≡ Blank
 unfolding line_done
@@ -183,9 +182,9 @@ unfoldable pub after_lines : Talk → List (List ℕ) → Talk
 after_lines t [] = t
 after_lines t (line ∷ lines) = after_lines (after_line t line) lines
 
-done-number : (t : Talk) (a : Wanted) → (done_by t a).number ≡ next_number t.number
-done-number t Nothing = refl
-done-number t (Happen event) = refl
+done-number : (t : Talk) (a : Option Event) → (done_by t a).number ≡ next_number t.number
+done-number t None = refl
+done-number t (Some event) = refl
 
 answered-number : (t : Talk) (line : List ℕ) → t.number + 1 < 2 ^ 64 → (after_line t line).number ≡ t.number + 1
 unfolding after_line

@@ -30,29 +30,23 @@ fn advance(
     ensures { FeedsOn (talk_of session memory.old eeprom.old) piece.now i out.old at memory.new
         eeprom.new out.new result }
 {
-    let reading = session.reading;
-    let found = session_reading::read_line(piece, i, reading);
-    let read = found.reading;
-    let end = found.end;
-    let board = session.board;
+    let found = session_reading::read_line(piece, i, session.reading);
     let open = Session {
-        board,
-        reading: read,
-        number: session.number,
+        reading: found.reading,
+        ..session
     };
-    if end < piece.len() {
+    if found.end < piece.len() {
         let done = session_line::answer_line(open, memory, eeprom, out, at);
-        let after = done.session;
         Fed {
-            session: after,
+            session: done.session,
             at: done.at,
-            taken: end + 1,
+            taken: found.end + 1,
         }
     } else {
         Fed {
             session: open,
             at,
-            taken: end,
+            taken: found.end,
         }
     }
 }
@@ -60,7 +54,7 @@ fn advance(
 // Takes the piece byte after byte, up to its end or to where fewer than 64 bytes of `out` are free; each line that ends is answered in `out`.
 pub fn feed(
     piece: &[u8],
-    session: Session,
+    mut session: Session,
     memory: &mut [u16],
     eeprom: &mut [u8],
     out: &mut [u8],
@@ -68,7 +62,6 @@ pub fn feed(
     ensures { Feeds (talk_of session memory.old eeprom.old) piece.now out.old memory.new
         eeprom.new out.new result }
 {
-    let mut session = session;
     let mut at = 0;
     let mut i = 0;
     while i < piece.len() {
@@ -80,8 +73,7 @@ pub fn feed(
             };
         }
         let fed = advance(piece, i, session, memory, eeprom, out, at);
-        let next = fed.session;
-        session = next;
+        session = fed.session;
         at = fed.at;
         i = fed.taken;
     }

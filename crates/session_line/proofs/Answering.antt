@@ -1,5 +1,5 @@
 -- The ways of `happen`, `refuse` and `answer_line`, over plain values. Assumes nothing.
-use Rattle.std.proofs.Common.{◌≡◌, ℕ, ◌≤◌, Bool, not, ◌&&◌, List, length, ap}
+use Rattle.std.proofs.Common.{◌≡◌, ℕ, ◌≤◌, Bool, not, ◌&&◌, List, Option, None, Some, length, ap}
 use Rattle.machine_record.specs.declared.Board.{Board}
 use Rattle.board_step.specs.Step.{step_of, memory_after, eeprom_after}
 use Rattle.board_events.specs.declared.Event.{Event}
@@ -14,8 +14,6 @@ use Rattle.session_answers.proofs.Lengths.{event_length, bad_length}
 use Rattle.session_talk.specs.Session.{Talk, talk_of, next_number}
 use Rattle.session_talk.specs.Wanted.{wanted_by}
 use Rattle.session_line.specs.Done.{raised, said_by, line_done, line_said, Happened, NotCommanded, Done}
-use Rattle.session_talk.specs.declared.Wanted.{Wanted}
-use Rattle.session_talk.specs.declared.Wanted.TheVariants.{Nothing, Happen}
 use Rattle.session_line.specs.declared.Answered.{Answered}
 
 -- an event happened: its outcome, both memories, and the line
@@ -43,22 +41,22 @@ happened b number event memory₀ eeprom₀ {o = o} oe me ee was is w =
 
 -- a line that asks for an event
 pub line_event : (t : Talk) {event : Event} {number : ℕ} {out out' memory eeprom : List ℕ} {at : ℕ} {r : Answered}
-    → number ≡ next_number t.number → wanted_by (command_read t.reading) ≡ Happen event
+    → number ≡ next_number t.number → wanted_by (command_read t.reading) ≡ Some event
     → Happened t.board number event t.memory t.eeprom out at memory eeprom out' r → Done t out at memory eeprom out' r
 unfolding line_done line_said
 line_event t {event} {out = out} {out'} {memory} {eeprom} {at} {r} n asked h = rw (asked, ← n) h
 
 -- a line that asks for nothing
 pub line_bad : (t : Talk) {number : ℕ} {out out' : List ℕ} {at : ℕ} {r : Answered}
-    → number ≡ next_number t.number → wanted_by (command_read t.reading) ≡ Nothing
+    → number ≡ next_number t.number → wanted_by (command_read t.reading) ≡ None
     → NotCommanded t.board number out at out' r → Done t out at t.memory t.eeprom out' r
 unfolding line_done line_said
 line_bad t {out = out} {out'} {at} {r} n asked h =
     rw (asked, ← n) (record { talk = ap (λ s. talk_of s t.memory t.eeprom) h.session; wrote = h.wrote })
 
-said_length : (t : Talk) (a : Wanted) → length (said_by t a) ≤ 64
-said_length t Nothing = bad_length _
-said_length t (Happen event) = event_length _ _ _
+said_length : (t : Talk) (a : Option Event) → length (said_by t a) ≤ 64
+said_length t None = bad_length _
+said_length t (Some event) = event_length _ _ _
 
 pub line_length : (t : Talk) → length (line_said t) ≤ 64
 unfolding line_said

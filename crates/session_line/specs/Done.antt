@@ -1,5 +1,5 @@
 -- One line that was read: the session after it, and what is printed.
-use Rattle.std.specs.Prelude.{◌≡◌, ℕ, Bool, not, ◌&&◌, List}
+use Rattle.std.specs.Prelude.{◌≡◌, ℕ, Bool, not, ◌&&◌, List, Option, None, Some}
 use Rattle.machine_record.specs.declared.Board.{Board}
 use Rattle.board_step.specs.Step.{step_of, memory_after, eeprom_after}
 use Rattle.board_events.specs.declared.Event.{Event}
@@ -9,8 +9,6 @@ use Rattle.session_commands.specs.Ends.{command_read}
 use Rattle.requests.specs.Requests.{asking}
 use Rattle.session_answers.specs.Answers.{event_text, bad_text}
 use Rattle.session_talk.specs.Wanted.{wanted_by}
-use Rattle.session_talk.specs.declared.Wanted.{Wanted}
-use Rattle.session_talk.specs.declared.Wanted.TheVariants.{Nothing, Happen}
 use Rattle.session_talk.specs.Session.{Talk, talk_of, next_number}
 use Rattle.session_line.specs.declared.Answered.{Answered}
 
@@ -18,9 +16,9 @@ use Rattle.session_line.specs.declared.Answered.{Answered}
 abbrev pub raised : Board → Board → Bool
 raised before after = not (asking before.requests.flags) && asking after.requests.flags
 
-abbrev pub done_by : Talk → Wanted → Talk
-done_by t Nothing = record { board = t.board; memory = t.memory; eeprom = t.eeprom; number = next_number t.number; reading = Blank }
-done_by t (Happen event) = record {
+abbrev pub done_by : Talk → Option Event → Talk
+done_by t None = record { board = t.board; memory = t.memory; eeprom = t.eeprom; number = next_number t.number; reading = Blank }
+done_by t (Some event) = record {
   board = (step_of t.board t.memory t.eeprom event).board;
   memory = memory_after t.board t.memory t.eeprom event;
   eeprom = eeprom_after t.board t.memory t.eeprom event;
@@ -28,9 +26,9 @@ done_by t (Happen event) = record {
   reading = Blank;
 }
 
-abbrev pub said_by : Talk → Wanted → List ℕ
-said_by t Nothing = bad_text (next_number t.number)
-said_by t (Happen event) =
+abbrev pub said_by : Talk → Option Event → List ℕ
+said_by t None = bad_text (next_number t.number)
+said_by t (Some event) =
     event_text (next_number t.number) (step_of t.board t.memory t.eeprom event).answer
     (raised t.board (step_of t.board t.memory t.eeprom event).board)
 

@@ -7,7 +7,7 @@ ghost use Rattle.session_line.specs.Done.{Done, Happened, NotCommanded};
 
 use board::{Board, Event};
 use session_reading::Reading;
-use session_talk::{Session, Wanted};
+use session_talk::Session;
 
 // The session after a line, and the place after its answer.
 #[derive(Clone, Copy)]
@@ -32,13 +32,11 @@ fn happen(
 {
     let asked = requests::is_asking(board.requests.flags);
     let outcome = board::step(board, memory, eeprom, event);
-    let next = outcome.board;
-    let answer = outcome.answer;
-    let asks = requests::is_asking(next.requests.flags);
-    let place = session_answers::put_event(number, answer, !asked & asks, out, at);
+    let asks = requests::is_asking(outcome.board.requests.flags);
+    let place = session_answers::put_event(number, outcome.answer, !asked & asks, out, at);
     Answered {
         session: Session {
-            board: next,
+            board: outcome.board,
             reading: Reading::Blank,
             number,
         },
@@ -74,12 +72,10 @@ pub fn answer_line(
     ensures { Done (talk_of session memory.old eeprom.old) out.old at memory.new eeprom.new
         out.new result }
 {
-    let number = std::num::wrapping_add_u64(session.number, 1);
-    let board = session.board;
-    let reading = session.reading;
-    let wanted = session_talk::wanted_by(session_commands::command_at(reading));
-    match wanted {
-        Wanted::Nothing => refuse(board, number, out, at),
-        Wanted::Happen(event) => happen(board, number, event, memory, eeprom, out, at),
+    let number = session.number.wrapping_add(1);
+    let command = session_commands::command_at(session.reading);
+    match session_talk::wanted_by(command) {
+        None => refuse(session.board, number, out, at),
+        Some(event) => happen(session.board, number, event, memory, eeprom, out, at),
     }
 }

@@ -85,9 +85,13 @@ pub found-newline : {reading r : Reading} {piece : List ℕ} {from i : ℕ} → 
     → Found reading piece from (record { reading = r; end = i })
 found-newline s e = record { least = s.least; most = s.most; unbroken = s.unbroken; read = s.read; stop = λ h. e }
 
+-- nothing is left behind the last byte
 pub found-end : {reading r : Reading} {piece : List ℕ} {from i : ℕ} → Scanned reading piece from r i → length piece ≤ i
-    → Found reading piece from (record { reading = r; end = i })
-found-end s h = record { least = s.least; most = s.most; unbroken = s.unbroken; read = s.read; stop = λ k. absurd (omega arith) }
+    → Found reading piece from (record { reading = r; end = length piece })
+found-end {reading} {r} {piece} {from} {i} s h =
+    let e : i ≡ length piece = (let m = s.most in omega arith) in
+    subst (λ (n : ℕ). Found reading piece from (record { reading = r; end = n })) e
+    (record { least = s.least; most = s.most; unbroken = s.unbroken; read = s.read; stop = λ k. absurd (omega arith) })
 
 -- what is found behind bytes that are read is found with them
 pub found_behind : {reading r : Reading} {piece : List ℕ} {from i : ℕ} {line : Line} → Scanned reading piece from r i → Found r piece i line

@@ -1,13 +1,14 @@
 -- The usual bytes of a line: what each makes of the line so far. Assumes nothing.
-use mathlib.Core.Path.{◌≡◌, refl, ap, sym, ◌∙◌}
+use mathlib.Core.Path.{◌≡◌, refl, ap, sym, subst, ◌∙◌}
 use mathlib.Core.Bool.{Bool, true, false, ◌&&◌, ◌||◌}
 use mathlib.Core.List.{List}
 use Prim.Native.Nat.{ℕ, ◌+◌, ◌-◌, ◌*◌, ◌%◌, ◌≤◌, ◌<◌}
 use native.Mathlib.Omega.{arith}
-use borrow.Author.Tests.{eqb-true, leb-true, ltb-true, eq-eqb, ne_eqb, le-leb, lt-ltb}
-use lib.Dec.{eqb, leb, ltb}
+use borrow.Author.Tests.{eqb-true, leb-true, eq-eqb, ne_eqb, le-leb}
+use lib.Dec.{eqb, leb}
 use lib.ListN.{length, get_or}
-use Rattle.std.specs.Prelude.{if◌then◌else◌}
+use Rattle.std.specs.Prelude.{None, Some, if◌then◌else◌}
+use Rattle.std.proofs.lemmas.Option.{none-some, same_Some}
 use Rattle.base.specs.Laws.{never, both}
 use Rattle.session_digits.specs.Digits.{digit_of, hex_of}
 use Rattle.session_reading.specs.Reading.{taken}
@@ -63,21 +64,20 @@ unfolding taken
 space_found f h e = found-next h (λ k. let z : ◌≡◌ {A = ℕ} 32 10 = sym e ∙ k in omega arith) (rw e) f
 
 -- ---- the number
-digit_byte : (b k : ℕ) → digit_of b ≤ 9 → digit_of k ≡ 10 → b ≡ k → ⊥
-digit_byte b k h e q = let z : digit_of b ≡ 10 = ap digit_of q ∙ e in omega arith
+digit_byte : (b k : ℕ) {d : ℕ} → digit_of b ≡ Some d → digit_of k ≡ None → b ≡ k → ⊥
+digit_byte b k {d} h e q = none-some d (sym e ∙ sym (ap digit_of q) ∙ h)
 
-not_digit : (k : ℕ) → leb 48 k && leb k 57 ≡ false → digit_of k ≡ 10
+not_digit : (k : ℕ) → leb 48 k && leb k 57 ≡ false → digit_of k ≡ None
 unfolding digit_of
 not_digit k e = rw e
 
-first_taken_lem : (number : Number) (b : ℕ) → digit_of b ≤ 9 → so_far number (digit_of b) ≡ taken (Begun number) b
+first_taken_lem : (number : Number) (b : ℕ) {d : ℕ} → digit_of b ≡ Some d → so_far number d ≡ taken (Begun number) b
 unfolding taken so_far
-first_taken_lem number b h = rw (ne_eqb b 45 (digit_byte b 45 h (not_digit 45 refl)), lt-ltb (digit_of b) 10 (omega arith))
+first_taken_lem number b h = rw (ne_eqb b 45 (digit_byte b 45 h (not_digit 45 refl)), h)
 
-digit_taken_lem : (number : Number) (n b : ℕ) → digit_of b ≤ 9 → n * 10 + digit_of b ≤ 65535 → Digits number (n * 10 + digit_of b) ≡ taken (Digits number n) b
+digit_taken_lem : (number : Number) (n b : ℕ) {d : ℕ} → digit_of b ≡ Some d → n * 10 + d ≤ 65535 → Digits number (n * 10 + d) ≡ taken (Digits number n) b
 unfolding taken
-digit_taken_lem number n b h k =
-    rw (ne_eqb b 32 (digit_byte b 32 h (not_digit 32 refl)), lt-ltb (digit_of b) 10 (omega arith), le-leb (n * 10 + digit_of b) 65535 k)
+digit_taken_lem number n b {d} h k = rw (ne_eqb b 32 (digit_byte b 32 h (not_digit 32 refl)), h, le-leb (n * 10 + d) 65535 k)
 
 -- the loop of `more_digits`: the digits from `from` to i are read, and the number is n
 pub record Growing (first : ℕ) (piece : List ℕ) (from n i : ℕ) : Type 0 where
@@ -90,18 +90,16 @@ pub growing_none : (first : ℕ) (piece : List ℕ) (from : ℕ) → (first ≡ 
 growing_none first piece from h k l =
     record { above = omega arith; within = k; most = l; digits = λ number. scanned-none (Digits number first) piece from l }
 
-pub growing_more : {first : ℕ} {piece : List ℕ} {from n i d : ℕ} → Growing first piece from n i → i < length piece → d ≡ digit_of (get_or piece i 0)
-    → d ≤ 9 → n * 10 + d ≤ 65535 → Growing first piece from (n * 10 + d) (i + 1)
-growing_more {first} {piece} {from} {n} {i} {d} g h e k l =
-    let digit : digit_of (get_or piece i 0) ≤ 9 = rw e at k in
-    let fits : n * 10 + digit_of (get_or piece i 0) ≤ 65535 = rw e at l in
+pub growing_more : {first : ℕ} {piece : List ℕ} {from n i d : ℕ} → Growing first piece from n i → i < length piece
+    → digit_of (get_or piece i 0) ≡ Some d → n * 10 + d ≤ 65535 → Growing first piece from (n * 10 + d) (i + 1)
+growing_more {first} {piece} {from} {n} {i} {d} g h e l =
     let above : 1 ≤ n = g.above in
     record {
       above = omega arith;
       within = l;
       most = omega arith;
-      digits = λ number. scanned-more (g.digits number) h (digit_byte (get_or piece i 0) 10 digit (not_digit 10 refl))
-          (ap (λ (x : ℕ). Digits number (n * 10 + x)) e ∙ digit_taken_lem number n (get_or piece i 0) digit fits);
+      digits = λ number. scanned-more (g.digits number) h (digit_byte (get_or piece i 0) 10 e (not_digit 10 refl))
+          (digit_taken_lem number n (get_or piece i 0) e l);
     }
 
 pub numbered-none : (piece : List ℕ) (from : ℕ) {first : ℕ} → first ≡ 0 → from ≤ length piece → DigitsRead first piece from (record { n = 0; at = from })
@@ -113,15 +111,20 @@ unfolding so_far
 numbered {first} {n = n} h g =
     record { digits = λ number. rw (ne_eqb first 0 h, ne_eqb n 0 (λ z. let a : 1 ≤ n = g.above in omega arith)) (g.digits number) }
 
+pub numbered-end : {first : ℕ} {piece : List ℕ} {from n i : ℕ} → (first ≡ 0 → ⊥) → Growing first piece from n i → length piece ≤ i
+    → DigitsRead first piece from (record { n = n; at = length piece })
+numbered-end {first} {piece} {from} {n} {i} h g k =
+    let e : i ≡ length piece = (let m = g.most in omega arith) in
+    subst (λ (at : ℕ). DigitsRead first piece from (record { n = n; at = at })) e (numbered h g)
+
 pub number-most : {d : ℕ} {piece : List ℕ} {from : ℕ} {numeral : Numeral} → DigitsRead d piece from numeral → numeral.at ≤ length piece
 number-most s = (s.digits Code).most
 
 pub number-found : {number : Number} {d : ℕ} {piece : List ℕ} {from : ℕ} {numeral : Numeral} {line : Line}
     → DigitsRead d piece (from + 1) numeral → Found (so_far number numeral.n) piece numeral.at line → from < length piece
-    → d ≡ digit_of (get_or piece from 0) → d < 10 → Found (Begun number) piece from line
-number-found {number} {d} {piece} {from} s f h e k =
-    let digit : digit_of (get_or piece from 0) ≤ 9 = omega (arith, e) in
-    found-next h (digit_byte (get_or piece from 0) 10 digit (not_digit 10 refl)) (ap (so_far number) e ∙ first_taken_lem number (get_or piece from 0) digit)
+    → digit_of (get_or piece from 0) ≡ Some d → Found (Begun number) piece from line
+number-found {number} {d} {piece} {from} s f h e =
+    found-next h (digit_byte (get_or piece from 0) 10 e (not_digit 10 refl)) (first_taken_lem number (get_or piece from 0) e)
     (found_behind (s.digits number) f)
 
 -- ---- the number's end
@@ -158,34 +161,56 @@ pub end-found : {r reading : Reading} {piece : List ℕ} {from : ℕ} → r ≡ 
 end-found e h k = found_as e (found_here h k)
 
 -- ---- the value
-hex_byte : (b : ℕ) → hex_of b < 16 → b ≡ 10 → ⊥
+hex_byte : (b : ℕ) {d : ℕ} → hex_of b ≡ Some d → b ≡ 10 → ⊥
 unfolding hex_of
-hex_byte b h e = let z : 16 < 16 = rw e at h in omega arith
+hex_byte b {d} h e = none-some d (rw e at h)
 
-pub hex_small : (h l b : ℕ) → (ltb h 16 && ltb l 16) && eqb b 10 ≡ true → (h < 16) × (l < 16) × (b ≡ 10)
-hex_small h l b e =
-    let p = both (ltb h 16 && ltb l 16) (eqb b 10) e in
-    let q = both (ltb h 16) (ltb l 16) p.0 in
-    (ltb-true h 16 q.0, ltb-true l 16 q.1, eqb-true b 10 p.1)
+-- A to F and a to f are above their row's first place
+letter_low : (b : ℕ) → leb 65 b && leb b 70 || leb 97 b && leb b 102 ≡ true → b % 16 < 7
+letter_low b h = by (leb 65 b && leb b 70) refl h
+  where
+    by : (t : Bool) → leb 65 b && leb b 70 ≡ t → t || leb 97 b && leb b 102 ≡ true → b % 16 < 7
+    by true e k =
+        let p = both (leb 65 b) (leb b 70) e in
+        let least : 65 ≤ b = leb-true 65 b p.0 in
+        let most : b ≤ 70 = leb-true b 70 p.1 in
+        omega arith
+    by false e k =
+        let p = both (leb 97 b) (leb b 102) k in
+        let least : 97 ≤ b = leb-true 97 b p.0 in
+        let most : b ≤ 102 = leb-true b 102 p.1 in
+        omega arith
 
-high_taken : (offset b : ℕ) → hex_of b < 16 → HalfValue offset (hex_of b) ≡ taken (Offset offset) b
+pub hex_small : (b : ℕ) {d : ℕ} → hex_of b ≡ Some d → d < 16
+unfolding hex_of
+hex_small b {d} h = by (leb 48 b && leb b 57) (leb 65 b && leb b 70 || leb 97 b && leb b 102) refl refl h
+  where
+    by : (t u : Bool) → leb 48 b && leb b 57 ≡ t → leb 65 b && leb b 70 || leb 97 b && leb b 102 ≡ u
+        → (if t then Some (b % 16) else if u then Some (b % 16 + 9) else None) ≡ Some d → d < 16
+    by true u e k q =
+        let same : b % 16 ≡ d = same_Some (b % 16) d q in
+        omega arith
+    by false true e k q =
+        let same : b % 16 + 9 ≡ d = same_Some (b % 16 + 9) d q in
+        let low = letter_low b k in
+        omega arith
+    by false false e k q = absurd (none-some d q)
+
+high_taken : (offset b : ℕ) {d : ℕ} → hex_of b ≡ Some d → HalfValue offset d ≡ taken (Offset offset) b
 unfolding taken
-high_taken offset b h = rw (lt-ltb (hex_of b) 16 h)
+high_taken offset b h = rw h
 
-low-taken : (offset high b : ℕ) → high < 16 → hex_of b < 16 → Whole offset (high * 16 + hex_of b) ≡ taken (HalfValue offset high) b
+low-taken : (offset high b : ℕ) {d : ℕ} → high < 16 → hex_of b ≡ Some d → Whole offset (high * 16 + d) ≡ taken (HalfValue offset high) b
 unfolding taken
-low-taken offset high b k h = let e : high % 16 ≡ high = omega arith in rw (lt-ltb (hex_of b) 16 h, e)
+low-taken offset high b k h = let e : high % 16 ≡ high = omega arith in rw (h, e)
 
-pub value_found : {offset high low : ℕ} {piece : List ℕ} {from : ℕ} → 2 < length piece - from → high ≡ hex_of (get_or piece from 0)
-    → low ≡ hex_of (get_or piece (from + 1) 0) → (ltb high 16 && ltb low 16) && eqb (get_or piece (from + 2) 0) 10 ≡ true
+pub value_found : {offset high low : ℕ} {piece : List ℕ} {from : ℕ} → 2 < length piece - from → hex_of (get_or piece from 0) ≡ Some high
+    → hex_of (get_or piece (from + 1) 0) ≡ Some low → get_or piece (from + 2) 0 ≡ 10
     → Found (Offset offset) piece from (record { reading = Whole offset (high * 16 + low); end = from + 2 })
-value_found {offset} {high} {low} {piece = piece} {from} r e k t =
-    let p = hex_small high low (get_or piece (from + 2) 0) t in
-    let h : hex_of (get_or piece from 0) < 16 = rw e at p.0 in
-    let l : hex_of (get_or piece (from + 1) 0) < 16 = rw k at p.1 in
+value_found {offset} {high} {low} {piece = piece} {from} r h l t =
     let two : from + 1 + 1 ≡ from + 2 = omega arith in
     let one = scanned-more (scanned-none (Offset offset) piece from (omega arith)) (omega arith) (hex_byte (get_or piece from 0) h)
-    (ap (HalfValue offset) e ∙ high_taken offset (get_or piece from 0) h) in
+    (high_taken offset (get_or piece from 0) h) in
     let both_read = scanned-more one (omega arith) (hex_byte (get_or piece (from + 1) 0) l)
-    (ap (λ (x : ℕ). Whole offset (high * 16 + x)) k ∙ low-taken offset high (get_or piece (from + 1) 0) p.0 l) in
-    found-newline (rw two at both_read) p.2
+    (low-taken offset high (get_or piece (from + 1) 0) (hex_small (get_or piece from 0) h) l) in
+    found-newline (rw two at both_read) t

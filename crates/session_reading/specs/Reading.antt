@@ -1,5 +1,6 @@
 -- A line read byte after byte: what is kept of it.
-use Rattle.std.specs.Prelude.{ℕ, ◌+◌, ◌*◌, List, [], ◌∷◌, eqb, leb, ltb, if◌then◌else◌}
+use Rattle.std.specs.Prelude.{ℕ, ◌+◌, ◌*◌, List, [], ◌∷◌, eqb, leb, if◌then◌else◌}
+use Rattle.std.specs.Option.{option_map_or}
 use Rattle.base.specs.Fields.{lowest}
 use Rattle.session_digits.specs.Digits.{digit_of, hex_of}
 use Rattle.session_reading.specs.declared.Number.{Number}
@@ -27,9 +28,7 @@ minus_taken MinusCode = Spoiled
 abbrev pub begun_taken : Number → ℕ → Reading
 begun_taken number b =
     if eqb b 45 then minus_taken number
-    else if eqb (digit_of b) 0 then Zero number
-    else if ltb (digit_of b) 10 then Digits number (digit_of b)
-    else Spoiled
+    else option_map_or (λ d. if eqb d 0 then Zero number else Digits number d) (digit_of b) Spoiled
 
 abbrev pub number_ended : Number → ℕ → Reading
 number_ended WriteOffset n = if leb n 99 then Offset n else Spoiled
@@ -45,13 +44,13 @@ grown number n digit = if leb (n * 10 + digit) 65535 then Digits number (n * 10 
 
 abbrev pub digit_taken : Number → ℕ → ℕ → Reading
 digit_taken number n b =
-    if eqb b 32 then number_ended number n else if ltb (digit_of b) 10 then grown number n (digit_of b) else Spoiled
+    if eqb b 32 then number_ended number n else option_map_or (grown number n) (digit_of b) Spoiled
 
 abbrev pub first_hex_taken : ℕ → ℕ → Reading
-first_hex_taken offset b = if ltb (hex_of b) 16 then HalfValue offset (hex_of b) else Spoiled
+first_hex_taken offset b = option_map_or (HalfValue offset) (hex_of b) Spoiled
 
 abbrev pub second_hex_taken : ℕ → ℕ → ℕ → Reading
-second_hex_taken offset high b = if ltb (hex_of b) 16 then Whole offset (lowest 4 high * 16 + hex_of b) else Spoiled
+second_hex_taken offset high b = option_map_or (λ low. Whole offset (lowest 4 high * 16 + low)) (hex_of b) Spoiled
 
 -- one byte more
 unfoldable pub taken : Reading → ℕ → Reading

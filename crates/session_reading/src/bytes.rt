@@ -9,16 +9,12 @@ use super::{Line, Number, Reading};
 fn take_first(byte: u8) -> Reading
     ensures { result ≡ first_taken byte }
 {
-    if byte == b'W' {
-        Reading::Letter(Number::WriteOffset)
-    } else if byte == b'R' {
-        Reading::Letter(Number::ReadOffset)
-    } else if byte == b'C' {
-        Reading::Letter(Number::Code)
-    } else if byte == b'X' {
-        Reading::Single
-    } else {
-        Reading::Spoiled
+    match byte {
+        b'W' => Reading::Letter(Number::WriteOffset),
+        b'R' => Reading::Letter(Number::ReadOffset),
+        b'C' => Reading::Letter(Number::Code),
+        b'X' => Reading::Single,
+        _ => Reading::Spoiled,
     }
 }
 
@@ -36,25 +32,21 @@ fn take_minus(number: Number) -> Reading
     ensures { result ≡ minus_taken number }
 {
     match number {
-        Number::WriteOffset => Reading::Spoiled,
-        Number::ReadOffset => Reading::Spoiled,
         Number::Code => Reading::Begun(Number::MinusCode),
-        Number::MinusCode => Reading::Spoiled,
+        _ => Reading::Spoiled,
     }
 }
 
 fn take_begun(number: Number, byte: u8) -> Reading
     ensures { result ≡ begun_taken number byte }
 {
-    let digit = session_digits::digit_of(byte);
     if byte == b'-' {
-        take_minus(number)
-    } else if digit == 0 {
-        Reading::Zero(number)
-    } else if digit < 10 {
-        Reading::Digits(number, digit as u16)
-    } else {
-        Reading::Spoiled
+        return take_minus(number);
+    }
+    match session_digits::digit_of(byte) {
+        Some(0) => Reading::Zero(number),
+        Some(digit) => Reading::Digits(number, digit as u16),
+        None => Reading::Spoiled,
     }
 }
 
@@ -63,16 +55,8 @@ fn end_number(number: Number, n: u16) -> Reading
     ensures { result ≡ number_ended number n }
 {
     match number {
-        Number::WriteOffset => {
-            if n <= 99 {
-                Reading::Offset(n as u8)
-            } else {
-                Reading::Spoiled
-            }
-        }
-        Number::ReadOffset => Reading::Spoiled,
-        Number::Code => Reading::Spoiled,
-        Number::MinusCode => Reading::Spoiled,
+        Number::WriteOffset if n <= 99 => Reading::Offset(n as u8),
+        _ => Reading::Spoiled,
     }
 }
 
@@ -101,35 +85,30 @@ fn grow(number: Number, n: u16, digit: u8) -> Reading
 fn take_digit(number: Number, n: u16, byte: u8) -> Reading
     ensures { result ≡ digit_taken number n byte }
 {
-    let digit = session_digits::digit_of(byte);
     if byte == b' ' {
-        end_number(number, n)
-    } else if digit < 10 {
-        grow(number, n, digit)
-    } else {
-        Reading::Spoiled
+        return end_number(number, n);
+    }
+    match session_digits::digit_of(byte) {
+        Some(digit) => grow(number, n, digit),
+        None => Reading::Spoiled,
     }
 }
 
 fn take_first_hex(offset: u8, byte: u8) -> Reading
     ensures { result ≡ first_hex_taken offset byte }
 {
-    let digit = session_digits::hex_of(byte);
-    if digit < 16 {
-        Reading::HalfValue(offset, digit)
-    } else {
-        Reading::Spoiled
+    match session_digits::hex_of(byte) {
+        Some(digit) => Reading::HalfValue(offset, digit),
+        None => Reading::Spoiled,
     }
 }
 
 fn take_second_hex(offset: u8, high: u8, byte: u8) -> Reading
     ensures { result ≡ second_hex_taken offset high byte }
 {
-    let digit = session_digits::hex_of(byte);
-    if digit < 16 {
-        Reading::Whole(offset, high % 16 * 16 + digit)
-    } else {
-        Reading::Spoiled
+    match session_digits::hex_of(byte) {
+        Some(digit) => Reading::Whole(offset, high % 16 * 16 + digit),
+        None => Reading::Spoiled,
     }
 }
 
@@ -153,20 +132,19 @@ pub fn take(reading: Reading, byte: u8) -> Reading
 }
 
 // Reads on from the byte `from` of the piece to the next newline, or to the piece's end.
-pub fn read_on(piece: &[u8], from: usize, reading: Reading) -> Line
+pub fn read_on(piece: &[u8], from: usize, mut reading: Reading) -> Line
     requires { from ≤ length piece.now }
     ensures { Found reading piece.now from result }
 {
-    let mut reading = reading;
-    let mut i = from;
-    while i < piece.len() {
+    for i in from..piece.len() {
         let byte = piece[i];
         if byte == b'\n' {
             return Line { reading, end: i };
         }
-        let next = take(reading, byte);
-        reading = next;
-        i += 1;
+        reading = take(reading, byte);
     }
-    Line { reading, end: i }
+    Line {
+        reading,
+        end: piece.len(),
+    }
 }

@@ -54,18 +54,7 @@ pub struct Line {
 fn is_blank(reading: Reading) -> bool
     ensures { result ≡ is_blank reading }
 {
-    match reading {
-        Reading::Blank => true,
-        Reading::Letter(_) => false,
-        Reading::Begun(_) => false,
-        Reading::Zero(_) => false,
-        Reading::Digits(_, _) => false,
-        Reading::Offset(_) => false,
-        Reading::HalfValue(_, _) => false,
-        Reading::Whole(_, _) => false,
-        Reading::Single => false,
-        Reading::Spoiled => false,
-    }
+    matches!(reading, Reading::Blank)
 }
 
 // Reads from the byte `from` of the piece to the next newline, or to the piece's end.

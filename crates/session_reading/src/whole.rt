@@ -22,7 +22,7 @@ fn read_value(offset: u8, piece: &[u8], from: usize) -> Line
     if piece.len() - from > 2 {
         let high = session_digits::hex_of(piece[from]);
         let low = session_digits::hex_of(piece[from + 1]);
-        if (high < 16) & (low < 16) & (piece[from + 2] == b'\n') {
+        if let (Some(high), Some(low), b'\n') = (high, low, piece[from + 2]) {
             return Line {
                 reading: Reading::Whole(offset, high * 16 + low),
                 end: from + 2,
@@ -88,20 +88,20 @@ fn more_digits(first: u8, piece: &[u8], from: usize) -> Numeral
         return Numeral { n: 0, at: from };
     }
     let mut n = first as u32;
-    let mut i = from;
-    while i < piece.len() {
-        let digit = session_digits::digit_of(piece[i]);
-        if digit > 9 {
+    for i in from..piece.len() {
+        let Some(digit) = session_digits::digit_of(piece[i]) else {
             return Numeral { n: n as u16, at: i };
-        }
+        };
         let m = n * 10 + (digit as u32);
         if m > 65535 {
             return Numeral { n: n as u16, at: i };
         }
         n = m;
-        i += 1;
     }
-    Numeral { n: n as u16, at: i }
+    Numeral {
+        n: n as u16,
+        at: piece.len(),
+    }
 }
 
 // After a letter and its space: the number, and what follows it.
@@ -110,8 +110,7 @@ fn read_begun(letter: u8, piece: &[u8], from: usize) -> Line
     ensures { Found (Begun (number_after letter)) piece.now from result }
 {
     if from < piece.len() {
-        let digit = session_digits::digit_of(piece[from]);
-        if digit < 10 {
+        if let Some(digit) = session_digits::digit_of(piece[from]) {
             let numeral = more_digits(digit, piece, from + 1);
             return read_end(letter, numeral.n, piece, numeral.at);
         }
@@ -124,12 +123,11 @@ fn read_letter(letter: u8, piece: &[u8], from: usize) -> Line
     requires { from ≤ length piece.now }
     ensures { Found (Letter (number_after letter)) piece.now from result }
 {
-    if from < piece.len() {
-        if piece[from] == b' ' {
-            return read_begun(letter, piece, from + 1);
-        }
+    if from < piece.len() && piece[from] == b' ' {
+        read_begun(letter, piece, from + 1)
+    } else {
+        bytes::read_on(piece, from, Reading::Letter(number_of(letter)))
     }
-    bytes::read_on(piece, from, Reading::Letter(number_of(letter)))
 }
 
 // Where a line begins: the letter W, R or C.

@@ -18,13 +18,6 @@ pub struct Session {
     pub number: u64,
 }
 
-// What a command wants: nothing, or an event.
-#[derive(Clone, Copy)]
-pub enum Wanted {
-    Nothing,
-    Happen(Event),
-}
-
 // A session with a fresh board, jumpers A, mid-scale, before its first line.
 pub fn begin() -> Session
     ensures { result ≡ fresh_session }
@@ -40,26 +33,25 @@ pub fn begin() -> Session
 pub fn is_begun(session: Session) -> bool
     ensures { result ≡ line_begun session }
 {
-    let reading = session.reading;
-    session_commands::is_begun(reading)
+    session_commands::is_begun(session.reading)
 }
 
 // What a command wants of the board.
-pub fn wanted_by(command: Command) -> Wanted
+pub fn wanted_by(command: Option<Command>) -> Option<Event>
     ensures { result ≡ wanted_by command }
 {
-    match command {
-        Command::WriteByte { offset, value } => Wanted::Happen(Event::WriteByte {
+    let event = match command? {
+        Command::WriteByte { offset, value } => Event::WriteByte {
             offset: offset as u32,
             value,
-        }),
-        Command::ReadByte { offset } => Wanted::Happen(Event::ReadByte {
+        },
+        Command::ReadByte { offset } => Event::ReadByte {
             offset: offset as u32,
-        }),
-        Command::ReadWord => Wanted::Happen(Event::ReadWord { offset: 0 }),
-        Command::EndConversion { sample } => Wanted::Happen(Event::ConversionEnd {
+        },
+        Command::ReadWord => Event::ReadWord { offset: 0 },
+        Command::EndConversion { sample } => Event::ConversionEnd {
             code: converter::codes::code(sample),
-        }),
-        Command::NoCommand => Wanted::Nothing,
-    }
+        },
+    };
+    Some(event)
 }

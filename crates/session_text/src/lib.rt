@@ -16,12 +16,9 @@ pub fn copy(text: &[u8], out: &mut [u8], at: usize) -> usize
     requires { at + length text.now ≤ length out.old }
     ensures { Wrote text.now out.old at out.new result }
 {
-    let mut i = 0;
-    while i < text.len() {
-        out[at + i] = text[i];
-        i += 1;
-    }
-    at + i
+    let n = text.len();
+    out[at..at + n].copy_from_slice(text);
+    at + n
 }
 
 // The decimal digits of n, from the last one to the first.
@@ -32,9 +29,8 @@ fn spell(n: u64) -> Decimal
     let mut from: usize = 19;
     let mut left = n;
     while left > 9 {
-        let tens = left / 10;
-        digits[from] = 48 + (left - tens * 10) as u8;
-        left = tens;
+        digits[from] = 48 + (left % 10) as u8;
+        left /= 10;
         from -= 1;
     }
     digits[from] = 48 + left as u8;
@@ -47,9 +43,7 @@ pub fn put_decimal(n: u64, out: &mut [u8], at: usize) -> usize
     ensures { Wrote (decimal_text n) out.old at out.new result }
 {
     let spelled = spell(n);
-    let digits = spelled.digits;
-    let from = spelled.from;
-    copy(&digits[from..], out, at)
+    copy(&spelled.digits[spelled.from..], out, at)
 }
 
 // A byte in two hex capitals.

@@ -6,8 +6,9 @@ use mathlib.Core.List.{List}
 use borrow.Author.Tests.{eq-eqb, ne_eqb, lt-ltb, le-ltb}
 use lib.IntN.{ℤ}
 use lib.Dec.{eqb}
-use Rattle.std.specs.Prelude.{if◌then◌else◌}
-use Rattle.base.specs.Checks.{refusal}
+use Rattle.std.specs.Prelude.{Result, is_err, if◌then◌else◌}
+use Rattle.base.specs.declared.Refusal.{Refusal}
+use Rattle.base.specs.Checks.{refusal, checked}
 use Rattle.base.specs.Flags.{on, flag}
 use Rattle.base.specs.Laws.{never, not_true}
 use Rattle.timer.specs.Bus.{count_refused, count_written, control_word_refused, control_word_written}
@@ -22,9 +23,9 @@ use Rattle.bus.specs.declared.Place.TheVariants.{Base0, Base1, Base2, Base3, Bas
 use Rattle.bus.specs.declared.Place.TheVariants.{Base8, Base9, Base10, Base11, Count, ControlWord, PortData, PortControl}
 use Rattle.bus.specs.declared.Place.TheVariants.{Reserved, Auxiliary, CalData, CalAddress, CalBase14, CalBase15, Outside}
 use Rattle.board_stores.specs.Stores.{wrong_lengths}
-use Rattle.board_refusal.specs.Refusals.{event_checks, checks}
+use Rattle.board_refusal.specs.Refusals.{event_checks, checks, first_checks}
 use Rattle.board_refusal.specs.Working.{is_working_board}
-use Rattle.board_step.specs.Ways.{Opened}
+use Rattle.board_step.specs.Ways.{Opened, stops}
 use Rattle.board_advance.specs.Advance.{advanced_of}
 use Rattle.board_advance.specs.Strided.{begins_in}
 use Rattle.board_laws.specs.Begins.{write_begins, din_begins, begins, ends, resets}
@@ -176,26 +177,19 @@ module _ (b : Board) where
 
 -- ---- any record and memories
 module _ (b : Board) (m e : List ℕ) where
-  pub wrong : (event : Event) → wrong_lengths m e ≡ true → no_counts ≡ counts_at (state_of b m e) event
-  unfolding counts_at checks
-  wrong event h = rw h
-
-  pub broken : (event : Event) {w : Bool} → wrong_lengths m e ≡ false → w ≡ is_working_board b m → not w ≡ true → no_counts ≡ counts_at (state_of b m e) event
-  unfolding counts_at checks
-  broken event {w} l k h = let f : is_working_board b m ≡ false = sym k ∙ not_true w h in rw (l, f)
+  pub stopped : (event : Event) {x : Result (Unit {0}) Refusal} → x ≡ checked (first_checks b m e) → is_err x ≡ true
+      → no_counts ≡ counts_at (state_of b m e) event
+  unfolding counts_at
+  stopped event k h = rw (stops b m e event k h)
 
   pub counted : (event : Event) {r : Tally} → Opened b m e → r ≡ taken b event → r ≡ counts_at (state_of b m e) event
   unfolding counts_at checks
   counted event o h = rw (o.long, o.working) h
 
   -- ---- many ticks
-  pub no_ticks : (t : Tally) (n : ℕ) → wrong_lengths m e ≡ true → t ≡ noted_ticks t b m e n
-  unfolding advanced_of checks
-  no_ticks t n h = rw h
-
-  pub broken_ticks : (t : Tally) (n : ℕ) {w : Bool} → wrong_lengths m e ≡ false → w ≡ is_working_board b m → not w ≡ true → t ≡ noted_ticks t b m e n
-  unfolding advanced_of checks
-  broken_ticks t n {w} l k h = let f : is_working_board b m ≡ false = sym k ∙ not_true w h in rw (l, f)
+  pub no_ticks : (t : Tally) (n : ℕ) {x : Result (Unit {0}) Refusal} → x ≡ checked (first_checks b m e) → is_err x ≡ true → t ≡ noted_ticks t b m e n
+  unfolding advanced_of
+  no_ticks t n k h = rw (stops b m e Tick k h)
 
   pub some_ticks : (t : Tally) (n : ℕ) {begun : Bool} {c r : Tally} → Opened b m e → begun ≡ begins_in b n → c ≡ begun_if begun → r ≡ added t c
       → r ≡ noted_ticks t b m e n

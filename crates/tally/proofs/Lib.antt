@@ -1,5 +1,5 @@
 pub mod Arms
-pub mod Halved
+pub mod Both
 pub mod Adding
 pub mod Runs
 pub mod Ticks

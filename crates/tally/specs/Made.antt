@@ -1,5 +1,5 @@
 -- What the code makes on the way to a tally and to its check: the promises of the functions inside.
-use Rattle.std.specs.Prelude.{ℕ, ◌/◌, ◌%◌, Bool, not, ◌&&◌, eqb, if◌then◌else◌}
+use Rattle.std.specs.Prelude.{Bool, not, ◌&&◌, eqb, if◌then◌else◌}
 use Rattle.base.specs.Checks.{refusal}
 use Rattle.base.specs.Flags.{flag, nonzero}
 use Rattle.converter.specs.Channels.{end_starts}
@@ -8,7 +8,6 @@ use Rattle.board_refusal.specs.Refusals.{event_checks}
 use Rattle.board_laws.specs.Begins.{keeps}
 use Rattle.tally_counts.specs.Counts.{no_counts, counts_of, held}
 use Rattle.tally_counts.specs.declared.Tally.{Tally}
-use Rattle.tally.specs.declared.sums.Halves.{Halves}
 use Rattle.board_events.specs.declared.Event.{Event}
 
 -- what an event of a working board counts
@@ -33,7 +32,3 @@ end_counts b = record {
   lost = flag (not (keeps b));
   cleared = 0;
 }
-
--- a number as how many times 2^32 it has, and what is left
-abbrev pub in_halves : ℕ → Halves
-in_halves n = record { high = n / 4294967296; low = n % 4294967296 }

@@ -1,11 +1,10 @@
 -- What a tick counts, and whether the ticks that are done of many begin a conversion: laws for the note of many ticks.
-use Rattle.std.specs.Prelude.{◌≡◌, refl, Bool, true, false, not, ◌&&◌, ◌||◌}
+use Rattle.std.specs.Prelude.{◌≡◌, refl, Bool, true, false, not, ◌&&◌, ◌||◌, None}
 use Rattle.std.proofs.Math.Path.{sym}
 use Rattle.std.proofs.Common.{ap, ◌∙◌}
 use mathlib.Core.List.{[]}
 use Rattle.base.specs.Flags.{on}
 use Rattle.base.specs.Laws.{never}
-use Rattle.fifo.specs.declared.OldestSample.TheVariants.{NoneHeld}
 use Rattle.converter.proofs.Begins.{trigger-runs}
 use Rattle.converter.specs.Channels.{internal_trigger}
 use Rattle.machine_record.specs.declared.Clocks.{Clocks}
@@ -40,7 +39,7 @@ module _ (b : Board) where
 
   tick-goes_on : on (ticked_board b).converter.converting ≡ begins b Tick || converting
   unfolding acted ends resets
-  tick-goes_on = sym (ap (λ (x : Board). on x.converter.converting) (tick_of b)) ∙ in_progress_lem b NoneHeld [] Tick
+  tick-goes_on = sym (ap (λ (x : Board). on x.converter.converting) (tick_of b)) ∙ in_progress_lem b None [] Tick
 
   the_same : (s c t : Bool) → s || c ≡ c || t && not c → (s ≡ true → c ≡ false) → s ≡ t && not c
   the_same true true t e f = never (sym (f refl))

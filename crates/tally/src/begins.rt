@@ -5,10 +5,10 @@ ghost use Rattle.converter.specs.Begins.{software_starts};
 ghost use Rattle.converter.specs.Channels.{end_starts};
 ghost use Rattle.board_laws.specs.Begins.{timer_begins, written_begins, write_begins, din_begins};
 
+use base::Refusal;
 use bus::Place;
 use machine::Board;
 use timer::Timer;
-use timer::accesses::Written;
 
 // A write of 0 does.
 fn by_software(b: Board) -> bool
@@ -29,12 +29,12 @@ fn by_timer(b: Board, t: Timer) -> bool
 }
 
 // A write of page 0 does, by what it makes of the timer; a refused one does not.
-fn by_written(b: Board, w: Written) -> bool
+fn by_written(b: Board, w: Result<Timer, Refusal>) -> bool
     ensures { result ≡ written_begins b w }
 {
     match w {
-        Written::Accepted(t) => by_timer(b, t),
-        Written::Refused(_) => false,
+        Ok(t) => by_timer(b, t),
+        Err(_) => false,
     }
 }
 

@@ -121,24 +121,18 @@ fn of_working(b: Board, event: Event) -> Tally
 pub fn counts(board: Board, memory: &[u16], eeprom: &[u8], event: Event) -> Tally
     ensures { result ≡ counts_at (state_of board memory.now eeprom.now) event }
 {
-    if (memory.len() != 512) | (eeprom.len() != 128) {
-        return none();
-    }
-    if !board::is_working(board, memory) {
+    if board_refusal::check(board, memory, eeprom).is_err() {
         return none();
     }
     of_working(board, event)
 }
 
 // A count with more; one that would go past its largest stays there.
+#[tactic(auto, unfolding(crate::specs::Tally::plus_up_to))]
 fn add(count: u64, more: u64) -> u64
     ensures { result ≡ plus_up_to count more }
 {
-    if more > 18446744073709551615 - count {
-        18446744073709551615
-    } else {
-        count + more
-    }
+    count.saturating_add(more)
 }
 
 // Each count with more.
@@ -166,10 +160,7 @@ pub fn note(tally: Tally, board: Board, memory: &[u16], eeprom: &[u8], event: Ev
 pub fn note_ticks(tally: Tally, board: Board, memory: &[u16], eeprom: &[u8], ticks: u32) -> Tally
     ensures { result ≡ noted_ticks tally board memory.now eeprom.now ticks }
 {
-    if (memory.len() != 512) | (eeprom.len() != 128) {
-        return tally;
-    }
-    if !board::is_working(board, memory) {
+    if board_refusal::check(board, memory, eeprom).is_err() {
         return tally;
     }
     add_all(tally, begun_if(board_advance::begins_in(board, ticks)))

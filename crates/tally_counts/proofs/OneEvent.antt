@@ -1,6 +1,6 @@
 -- Theorems that rest on theorems of specs/OneEvent.antt, and promise as those do. What specs/OneEvent.antt says of itself:
 -- Both sums over one event, with the board before it and after it: laws for the theorems over rows of events.
-use Rattle.std.specs.Prelude.{ℕ, ◌+◌, ◌-◌, ◌≡◌, Bool, not, ◌&&◌, ◌||◌, List, [], ltb, if◌then◌else◌}
+use Rattle.std.specs.Prelude.{ℕ, ◌+◌, ◌-◌, ◌≡◌, Bool, not, ◌&&◌, ◌||◌, List, [], ltb, if◌then◌else◌, Option}
 use Rattle.std.proofs.Math.Path.{refl}
 use Rattle.std.proofs.Common.{sym, subst, eqb-true}
 use Rattle.std.proofs.Math.Bool.{true, false}
@@ -14,7 +14,6 @@ use Rattle.base.specs.Unrefused.{passes}
 use Rattle.fifo.specs.Samples.{oldest_of}
 use Rattle.fifo.specs.Queue.{queue, pushed_to, place_after, popped_from}
 use Rattle.fifo.specs.declared.Fifo.{Fifo}
-use Rattle.fifo.specs.declared.OldestSample.{OldestSample}
 use Rattle.machine_record.specs.declared.Board.{Board}
 use Rattle.bus.specs.Effects.{Effect, Take, Keep}
 use Rattle.board_refusal.specs.Refusals.{event_checks}
@@ -56,7 +55,7 @@ stored_held f = by (ltb f.held 512)
     by true = omega arith
     by false = omega arith
 
-module _ (b : Board) (o : OldestSample) (e : List ℕ) where
+module _ (b : Board) (o : Option ℕ) (e : List ℕ) where
   by-effect : (ev : Event) → Adds b o e ev (fifo_after (effect_of ev) b.fifo).held
   unfolding ends reads loses clears
   by-effect (WriteByte n v) = omega (arith, emptied-held b.fifo (empties (WriteByte n v)))
@@ -102,7 +101,7 @@ balance false false false true ended free = refl
 balance false false true false ended free = refl
 balance false false false false ended free = refl
 
-conversions_add : (b : Board) (o : OldestSample) (e : List ℕ) (ev : Event) → refusal (event_checks b ev) ≡ 0
+conversions_add : (b : Board) (o : Option ℕ) (e : List ℕ) (ev : Event) → refusal (event_checks b ev) ≡ 0
     → flag (begins b ev) + in_progress b ≡ flag (ends ev) + flag (abandons b ev) + flag (runs_after b o e ev)
 conversions_add b o e ev p =
     rw (abandoned b o e ev, in_progress_lem b o e ev)

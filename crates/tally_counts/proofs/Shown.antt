@@ -1,14 +1,12 @@
 -- Theorems that rest on theorems of specs/Shown.antt, and promise as those do. What specs/Shown.antt says of itself:
 -- Read and cleared are told apart by the answer: a sample that an event counts as read is shown, so no event that is answered by done counts one; and what an
 -- event clears is not, so none that shows something, or is refused, counts any as cleared.
-use Rattle.std.specs.Prelude.{ℕ, ◌≡◌, Bool, List}
+use Rattle.std.specs.Prelude.{ℕ, ◌≡◌, Bool, List, Option, Some, None}
 use Rattle.std.proofs.Math.Path.{refl}
 use Rattle.std.proofs.Common.{sym, ap, ◌∙◌}
 use Rattle.std.proofs.Math.Bool.{true, false}
 use Rattle.std.proofs.Math.Dec.{eqb}
 use Rattle.base.specs.Laws.{never}
-use Rattle.fifo.specs.declared.OldestSample.{OldestSample}
-use Rattle.fifo.specs.declared.OldestSample.TheVariants.{NoneHeld, Sample}
 use Rattle.machine_record.specs.declared.Board.{Board}
 use Rattle.board_step.specs.Act.{acted}
 use Rattle.board_step.specs.Step.{ran, step_of}
@@ -20,12 +18,12 @@ use Rattle.tally_counts.specs.Shown.{is_done, oldest}
 
 -- ---- an event that is not refused
 module _ (b : Board) (e : List ℕ) where
-  unread : (o : OldestSample) (ev : Event) → is_done (acted b o e ev).answer ≡ true → (counts_of b ev).read ≡ 0
+  unread : (o : Option ℕ) (ev : Event) → is_done (acted b o e ev).answer ≡ true → (counts_of b ev).read ≡ 0
   unfolding acted counts_of reads
   unread o (WriteByte n v) h = refl
   unread o (ReadByte n) h = never h
-  unread NoneHeld (ReadWord n) h = never h
-  unread (Sample sample) (ReadWord n) h = never h
+  unread None (ReadWord n) h = never h
+  unread (Some sample) (ReadWord n) h = never h
   unread o (ConversionEnd code) h = refl
   unread o (DinPins d) h = refl
   unread o (LatchLevel level) h = refl
@@ -33,7 +31,7 @@ module _ (b : Board) (e : List ℕ) where
   unread o Tick h = refl
   unread o TransferEnd h = refl
 
-  uncleared : (o : OldestSample) (ev : Event) → is_done (acted b o e ev).answer ≡ false → (counts_of b ev).cleared ≡ 0
+  uncleared : (o : Option ℕ) (ev : Event) → is_done (acted b o e ev).answer ≡ false → (counts_of b ev).cleared ≡ 0
   unfolding acted counts_of clears
   uncleared o (WriteByte n v) h = never (sym h)
   uncleared o (ReadByte n) h = refl

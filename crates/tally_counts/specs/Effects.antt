@@ -1,8 +1,7 @@
 -- What an event does to the samples held, by its offset: laws that join the rows of the bus, which go by the place of an offset, to the definitions of Counts.
-use Rattle.std.specs.Prelude.{ℕ, ◌≤◌, ◌≡◌, Bool, true, false, ◌&&◌, ◌||◌, List, eqb, leb, if◌then◌else◌}
+use Rattle.std.specs.Prelude.{ℕ, ◌≤◌, ◌≡◌, Bool, true, false, ◌&&◌, ◌||◌, List, eqb, leb, if◌then◌else◌, Option}
 use Rattle.std.proofs.Math.Path.{refl}
 use Rattle.std.proofs.Common.{arith, eqb-true, ne_eqb, leb-false}
-use Rattle.fifo.specs.declared.OldestSample.{OldestSample}
 use Rattle.converter.specs.Codes.{sample_of}
 use Rattle.requests.specs.Registers.{FIFORST}
 use Rattle.machine_reset.specs.Reset.{is_reset}
@@ -94,7 +93,7 @@ effect_of (PortPins q v) = Keep
 effect_of Tick = Keep
 effect_of TransferEnd = Keep
 
-pub effect_of_lem : (b : Board) (o : OldestSample) (e : List ℕ) (event : Event) → (acted b o e event).effect ≡ effect_of event
+pub effect_of_lem : (b : Board) (o : Option ℕ) (e : List ℕ) (event : Event) → (acted b o e event).effect ≡ effect_of event
 unfolding acted resets
 effect_of_lem b o e (WriteByte offset value) = (place_does offset value b.registers.page).written
 effect_of_lem b o e (ReadByte offset) = (place_does offset 0 b.registers.page).read

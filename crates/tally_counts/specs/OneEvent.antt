@@ -1,7 +1,6 @@
 -- Both sums over one event, with the board before it and after it: laws for the theorems over rows of events.
-use Rattle.std.specs.Prelude.{ℕ, ◌+◌, ◌≡◌, List}
+use Rattle.std.specs.Prelude.{ℕ, ◌+◌, ◌≡◌, List, Option}
 use Rattle.base.specs.Flags.{flag}
-use Rattle.fifo.specs.declared.OldestSample.{OldestSample}
 use Rattle.machine_record.specs.declared.Board.{Board}
 use Rattle.board_step.specs.Act.{acted}
 use Rattle.board_step.specs.Step.{fifo_after, ran_from}
@@ -12,7 +11,7 @@ use Rattle.tally_counts.specs.declared.Tally.{Tally}
 use Rattle.board_events.specs.declared.Event.{Event}
 
 -- ---- the samples, by what an event does to them
-module _ (b : Board) (o : OldestSample) (e : List ℕ) where
+module _ (b : Board) (o : Option ℕ) (e : List ℕ) where
   abbrev pub held_after : Event → ℕ
   held_after ev = (fifo_after (acted b o e ev).effect b.fifo).held
 

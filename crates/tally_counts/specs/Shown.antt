@@ -1,10 +1,9 @@
 -- Read and cleared are told apart by the answer: a sample that an event counts as read is shown, so no event that is answered by done counts one; and what an
 -- event clears is not, so none that shows something, or is refused, counts any as cleared.
-use Rattle.std.specs.Prelude.{Bool}
+use Rattle.std.specs.Prelude.{Bool, ℕ, Option}
 use Rattle.std.proofs.Math.Bool.{true, false}
 use Rattle.fifo.specs.Samples.{oldest_of}
 use Rattle.fifo.specs.Queue.{queue}
-use Rattle.fifo.specs.declared.OldestSample.{OldestSample}
 use Rattle.board_step.specs.States.{State}
 use Rattle.board_events.specs.declared.Answer.{Answer}
 use Rattle.board_events.specs.declared.Answer.TheVariants.{Done, Byte, Word, Nothing, Refused}
@@ -19,5 +18,5 @@ is_done Nothing = false
 
 -- ---- any event of any board
 module _ (s : State) (ev : Event) where
-  abbrev pub oldest : OldestSample
+  abbrev pub oldest : Option ℕ
   oldest = oldest_of (queue s.board.fifo s.memory)

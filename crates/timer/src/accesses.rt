@@ -4,13 +4,7 @@ ghost use Rattle.std.specs.Prelude.{◌≡◌};
 ghost use Rattle.timer.specs.Bus.{selected, control_word_refused, control_word_written, count_refused, count_written, timer_read};
 
 use crate::{Gates, Select, Timer};
-
-// What a write answers: the timer after it, or the refusal number.
-#[derive(Clone, Copy)]
-pub enum Written {
-    Accepted(Timer),
-    Refused(u8),
-}
+use base::Refusal;
 
 // The byte that a read gives, and the timer after it.
 #[derive(Clone, Copy)]
@@ -19,22 +13,21 @@ pub struct TimerRead {
     pub timer: Timer,
 }
 
-// The refusal number of a setting that is not modelled.
-const NOT_MODELLED: u8 = 7;
+// By what a setting that is not modelled is refused.
+const NOT_MODELLED: Refusal = Refusal { number: 7 };
 
 fn select_of(sc: u8) -> Select
     ensures { result ≡ selected sc }
 {
-    if sc == 0 {
-        Select::Counter0
-    } else if sc == 1 {
-        Select::Counter1
-    } else {
-        Select::Counter2
+    match sc {
+        0 => Select::Counter0,
+        1 => Select::Counter1,
+        _ => Select::Counter2,
     }
 }
 
 // Whether a control word is refused.
+#[tactic(auto, unfolding(crate::specs::Bus::control_word_refused))]
 pub fn refuses_control(word: u8) -> bool
     ensures { result ≡ control_word_refused word }
 {
@@ -42,23 +35,20 @@ pub fn refuses_control(word: u8) -> bool
 }
 
 // A control word: it goes to the counter that it selects.
-pub fn write_control(t: Timer, word: u8, g: Gates) -> Written
+#[tactic(auto, unfolding(crate::specs::Bus::control_word_written))]
+pub fn write_control(t: Timer, word: u8, g: Gates) -> Result<Timer, Refusal>
     ensures { result ≡ control_word_written t word g }
 {
     if refuses_control(word) {
-        Written::Refused(NOT_MODELLED)
+        Err(NOT_MODELLED)
     } else {
         let s = select_of(word / 64 % 4);
-        Written::Accepted(crate::move_counter(
-            t,
-            s,
-            counter::write_word(crate::counter_of(t, s), word),
-            g,
-        ))
+        Ok(crate::move_counter(t, s, counter::write_word(crate::counter_of(t, s), word), g))
     }
 }
 
 // Whether a byte of a count for a counter is refused.
+#[tactic(auto, unfolding(crate::specs::Bus::count_refused))]
 pub fn refuses_count(t: Timer, s: Select, byte: u8) -> bool
     ensures { result ≡ count_refused t s byte }
 {
@@ -66,29 +56,25 @@ pub fn refuses_count(t: Timer, s: Select, byte: u8) -> bool
 }
 
 // A byte of a count.
-pub fn write_count(t: Timer, s: Select, byte: u8, g: Gates) -> Written
+#[tactic(auto, unfolding(crate::specs::Bus::count_written))]
+pub fn write_count(t: Timer, s: Select, byte: u8, g: Gates) -> Result<Timer, Refusal>
     ensures { result ≡ count_written t s byte g }
 {
     if refuses_count(t, s, byte) {
-        Written::Refused(NOT_MODELLED)
+        Err(NOT_MODELLED)
     } else {
-        Written::Accepted(crate::move_counter(
-            t,
-            s,
-            counter::write_byte(crate::counter_of(t, s), byte),
-            g,
-        ))
+        Ok(crate::move_counter(t, s, counter::write_byte(crate::counter_of(t, s), byte), g))
     }
 }
 
 // A read of a counter.
+#[tactic(auto, unfolding(crate::specs::Bus::timer_read))]
 pub fn read(t: Timer, s: Select) -> TimerRead
     ensures { result ≡ timer_read t s }
 {
     let a = counter::read(crate::counter_of(t, s));
-    let d = a.counter;
     TimerRead {
         byte: a.byte,
-        timer: crate::put_counter(t, s, d),
+        timer: crate::put_counter(t, s, a.counter),
     }
 }

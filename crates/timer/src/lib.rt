@@ -70,8 +70,7 @@ fn gate_of(g: Gates, s: Select) -> bool
 pub fn out_of(t: Timer, s: Select) -> bool
     ensures { result ≡ out t s }
 {
-    let c = counter_of(t, s);
-    c.count.out == 1
+    counter_of(t, s).count.out == 1
 }
 
 // Whether a level went from high to low.
@@ -87,39 +86,29 @@ pub fn put_counter(t: Timer, s: Select, d: Counter) -> Timer
 {
     let mut u = t;
     match s {
-        Select::Counter0 => {
-            u.counter0 = d;
-            u
-        }
-        Select::Counter1 => {
-            u.counter1 = d;
-            u
-        }
-        Select::Counter2 => {
-            u.counter2 = d;
-            u
-        }
+        Select::Counter0 => u.counter0 = d,
+        Select::Counter1 => u.counter1 = d,
+        Select::Counter2 => u.counter2 = d,
     }
+    u
 }
 
 // A falling OUT1 clocks counter 2: the only place that says so.
 fn cascade(before: Timer, after: Timer, g: Gates) -> Timer
     ensures { result ≡ cascaded before after g }
 {
-    let c = after.counter2;
     let mut u = after;
     if has_fallen(
         before.counter1.count.out == 1,
         after.counter1.count.out == 1,
     ) {
-        u.counter2 = counter::pulse(c, g.gate12);
-        u
-    } else {
-        after
+        u.counter2 = counter::pulse(after.counter2, g.gate12);
     }
+    u
 }
 
 // A counter becomes another: the way of every change that may move an OUT.
+#[tactic(auto, unfolding(crate::specs::Timer::moved))]
 pub fn move_counter(t: Timer, s: Select, d: Counter, g: Gates) -> Timer
     ensures { result ≡ moved t s d g }
 {
@@ -133,6 +122,7 @@ fn clock(t: Timer, s: Select, g: Gates) -> Timer
 }
 
 // A CLK pulse at a counter, where its clock source has one.
+#[tactic(auto, unfolding(crate::specs::Timer::clocked_if))]
 pub fn clock_if(t: Timer, s: Select, g: Gates, pulse: bool) -> Timer
     ensures { result ≡ clocked_if t s g pulse }
 {
@@ -150,16 +140,14 @@ pub fn do_gates_move(was: Gates, is: Gates) -> bool
 }
 
 // The gates go from `was` to `is`.
+#[tactic(auto, unfolding(crate::specs::Timer::gates_moved))]
 pub fn move_gates(t: Timer, was: Gates, is: Gates) -> Timer
     ensures { result ≡ gates_moved t was is }
 {
-    let a = t.counter0;
-    let b = t.counter1;
-    let c = t.counter2;
     Timer {
-        counter0: counter::move_gate(a, was.gate0, is.gate0),
-        counter1: counter::move_gate(b, was.gate12, is.gate12),
-        counter2: counter::move_gate(c, was.gate12, is.gate12),
+        counter0: counter::move_gate(t.counter0, was.gate0, is.gate0),
+        counter1: counter::move_gate(t.counter1, was.gate12, is.gate12),
+        counter2: counter::move_gate(t.counter2, was.gate12, is.gate12),
     }
 }
 
@@ -179,24 +167,14 @@ pub fn controls_work(t: Timer) -> bool
     let a = t.counter0;
     let b = t.counter1;
     let c = t.counter2;
-    if counter::control_works(a.control, a.count.register, a.count.out) {
-        if counter::control_works(b.control, b.count.register, b.count.out) {
-            counter::control_works(c.control, c.count.register, c.count.out)
-        } else {
-            false
-        }
-    } else {
-        false
-    }
+    counter::control_works(a.control, a.count.register, a.count.out)
+        && counter::control_works(b.control, b.count.register, b.count.out)
+        && counter::control_works(c.control, c.count.register, c.count.out)
 }
 
 // Whether the three counters are a working board's.
 pub fn is_working(t: Timer) -> bool
     ensures { result ≡ is_working_timer t }
 {
-    if flags_work(t) {
-        controls_work(t)
-    } else {
-        false
-    }
+    flags_work(t) && controls_work(t)
 }

@@ -1,6 +1,6 @@
 -- Theorems that rest on theorems of specs/LatchLaws.antt, and promise as those do. What specs/LatchLaws.antt says of itself:
 -- What the theorem of Latch rests on: what each happening leaves of a counter whose count is latched.
-use Rattle.std.specs.Prelude.{ℕ, ◌≡◌, Bool, ◌&&◌, ◌||◌, List, [], ◌∷◌, if◌then◌else◌}
+use Rattle.std.specs.Prelude.{ℕ, ◌≡◌, Bool, ◌&&◌, ◌||◌, List, [], ◌∷◌, if◌then◌else◌, Some, Result, Ok, Err}
 use Rattle.std.proofs.Common.{sym, ◌∙◌}
 use Rattle.std.proofs.Math.Path.{refl}
 use Rattle.std.proofs.Math.Bool.{true, false, not}
@@ -11,7 +11,6 @@ use Rattle.counter_modes.specs.declared.Mode.{Mode}
 use Rattle.counter_modes.specs.declared.Format.TheVariants.{TwoBytes}
 use Rattle.counter_modes.specs.declared.ControlCommand.{ControlCommand}
 use Rattle.counter_modes.specs.declared.ControlCommand.TheVariants.{LatchCount, Program, NotModelled}
-use Rattle.counter_modes.specs.declared.Setup.TheVariants.{Programmed}
 use Rattle.counter_bytes.specs.Bytes.{piece_of}
 use Rattle.counter_bytes.specs.declared.Piece.{Piece}
 use Rattle.counter_bytes.specs.declared.Piece.TheVariants.{First, Whole}
@@ -26,8 +25,8 @@ use Rattle.timer.specs.declared.Select.TheVariants.{Counter0, Counter1, Counter2
 use Rattle.timer.specs.Bus.{selected, control_word_refused, control_word_written, count_refused, count_written, timer_read}
 use Rattle.timer_latch.specs.Happenings.{Chip, ChipEvent, clock, gates, read, count, control, after_write, next, chip_after, same_counter, programs}
 use Rattle.timer_latch.specs.Happenings.{spares_counter, all_spare}
-use Rattle.timer.specs.declared.accesses.Written.{Written}
-use Rattle.timer.specs.declared.accesses.Written.TheVariants.{Accepted, Refused}
+use Rattle.base.specs.Checks.{refused_by}
+use Rattle.base.specs.declared.Refusal.{Refusal}
 use Rattle.timer_latch.specs.LatchLaws.{HeldAt, LatchHeld, moved_has, pulsed-held, put_has, same-held}
 
 module _ {m : Mode} {v : ℕ} {half : Bool} where
@@ -51,7 +50,7 @@ module _ {m : Mode} {v : ℕ} {half : Bool} where
   commanded-held c w e h = go (command w) e
     where
       go : (o : ControlCommand) → programs o ≡ false → LatchHeld m v half (commanded_by o c w)
-      go LatchCount e = rw h.set (same-held c (latched_as (Programmed TwoBytes m) c) refl (rw h.latched) h)
+      go LatchCount e = rw h.set (same-held c (latched_as (Some (TwoBytes, m)) c) refl (rw h.latched) h)
       go (Program f n) e = never (sym e)
       go NotModelled e = h
 
@@ -70,8 +69,8 @@ module _ (m : Mode) (v : ℕ) (half : Bool) where
   count_held : (t : Timer) (x s : Select) (b : ℕ) (g : Gates) → HeldAt m v half s t → HeldAt m v half s (after_write t (count_written t x b g))
   unfolding count_written
   count_held t x s b g p =
-      by_choice (λ (w : Written). HeldAt m v half s (after_write t w)) (count_refused t x b) {x = Refused 7}
-      {y = Accepted (moved t x (byte_written (counter_of t x) b) g)} p
+      by_choice (λ (w : Result Timer Refusal). HeldAt m v half s (after_write t w)) (count_refused t x b) {x = Err (refused_by 7)}
+      {y = Ok (moved t x (byte_written (counter_of t x) b) g)} p
       (moved_has (LatchHeld m v half) pulsed-held t x s _ g p (λ e. written_held (counter_of t x) b))
 
   control-held : (t : Timer) (s : Select) (w : ℕ) (g : Gates)
@@ -82,7 +81,7 @@ module _ (m : Mode) (v : ℕ) (half : Bool) where
     where
       go : (r : Bool) → r || not (same_counter s (selected (field w 6 2)) && programs (command w)) ≡ true
           → HeldAt m v half s
-          (after_write t (if r then Refused 7 else Accepted (moved t (selected (field w 6 2)) (commanded (counter_of t (selected (field w 6 2))) w) g)))
+          (after_write t (if r then Err (refused_by 7) else Ok (moved t (selected (field w 6 2)) (commanded (counter_of t (selected (field w 6 2))) w) g)))
       go true e = p
       go false e =
           let x = selected (field w 6 2) in

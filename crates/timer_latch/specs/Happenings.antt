@@ -1,5 +1,5 @@
 -- What happens to the three counters over many steps: CLK pulses, moves of the gates, and what the bus writes and reads, in any order.
-use Rattle.std.specs.Prelude.{ℕ, ◌+◌, ◌*◌, ◌≡◌, Bool, true, false, not, ◌&&◌, ◌||◌, List, [], ◌∷◌}
+use Rattle.std.specs.Prelude.{ℕ, ◌+◌, ◌*◌, ◌≡◌, Bool, true, false, not, ◌&&◌, ◌||◌, List, [], ◌∷◌, Some, Result, Ok, Err}
 use Rattle.base.specs.Flags.{on}
 use Rattle.base.specs.Fields.{field}
 use Rattle.counter_modes.specs.Control.{command, setup_of}
@@ -7,7 +7,6 @@ use Rattle.counter_modes.specs.declared.Mode.{Mode}
 use Rattle.counter_modes.specs.declared.Format.TheVariants.{TwoBytes}
 use Rattle.counter_modes.specs.declared.ControlCommand.{ControlCommand}
 use Rattle.counter_modes.specs.declared.ControlCommand.TheVariants.{LatchCount, Program, NotModelled}
-use Rattle.counter_modes.specs.declared.Setup.TheVariants.{Programmed}
 use Rattle.counter_one.specs.declared.Counter.{Counter}
 use Rattle.timer.specs.Timer.{clocked, gates_moved}
 use Rattle.timer.specs.declared.Timer.{Timer}
@@ -15,8 +14,7 @@ use Rattle.timer.specs.declared.Gates.{Gates}
 use Rattle.timer.specs.declared.Select.{Select}
 use Rattle.timer.specs.declared.Select.TheVariants.{Counter0, Counter1, Counter2}
 use Rattle.timer.specs.Bus.{selected, control_word_refused, control_word_written, count_written, timer_read}
-use Rattle.timer.specs.declared.accesses.Written.{Written}
-use Rattle.timer.specs.declared.accesses.Written.TheVariants.{Accepted, Refused}
+use Rattle.base.specs.declared.Refusal.{Refusal}
 
 -- the three counters, and the levels that their gates have
 pub record Chip : Type 0 where
@@ -32,9 +30,9 @@ pub data ChipEvent : Type 0 where
   control : ℕ → ChipEvent
 
 -- a refused write leaves the timer
-abbrev pub after_write : Timer → Written → Timer
-after_write t (Accepted d) = d
-after_write t (Refused n) = t
+abbrev pub after_write : Timer → Result Timer Refusal → Timer
+after_write t (Ok d) = d
+after_write t (Err r) = t
 
 abbrev pub next : Chip → ChipEvent → Chip
 next c (clock s) = record { timer = clocked c.timer s c.levels; levels = c.levels }
@@ -91,6 +89,6 @@ latch_command s x = sc_of s * 64 + x
 
 -- ---- a counter that is programmed for two-byte counts, with no count latched and no second byte left to read
 pub record Unread (m : Mode) (c : Counter) : Type 0 where
-  pub set : setup_of c.control ≡ Programmed TwoBytes m
+  pub set : setup_of c.control ≡ Some (TwoBytes, m)
   pub unlatched : on c.bus.latched ≡ false
   pub whole : on c.bus.halfread ≡ false

@@ -1,5 +1,5 @@
 -- What the theorem of Latch rests on: what each happening leaves of a counter whose count is latched.
-use Rattle.std.specs.Prelude.{ℕ, ◌/◌, ◌%◌, ◌<◌, ◌≡◌, Bool, List, [], ◌∷◌, ◌++◌}
+use Rattle.std.specs.Prelude.{ℕ, ◌/◌, ◌%◌, ◌<◌, ◌≡◌, Bool, List, [], ◌∷◌, ◌++◌, Some, Result, Ok}
 use Rattle.std.proofs.Common.{arith, ap, ◌∙◌}
 use Rattle.std.proofs.Math.Path.{refl, subst⁻¹}
 use Rattle.std.proofs.Math.Bool.{true, false}
@@ -9,7 +9,6 @@ use Rattle.counter_modes.specs.Control.{command, setup_of, word_refused}
 use Rattle.counter_modes.specs.declared.Mode.{Mode}
 use Rattle.counter_modes.specs.declared.Format.TheVariants.{TwoBytes}
 use Rattle.counter_modes.specs.declared.ControlCommand.TheVariants.{LatchCount}
-use Rattle.counter_modes.specs.declared.Setup.TheVariants.{Programmed}
 use Rattle.counter_bytes.specs.declared.Bus.{Bus}
 use Rattle.counter_one.specs.Counter.{pulsed, counter_read, commanded, latched_as}
 use Rattle.counter_one.specs.Pulsed.{control-pulsed, bus-pulsed}
@@ -23,12 +22,11 @@ use Rattle.timer.specs.declared.Select.TheVariants.{Counter0, Counter1, Counter2
 use Rattle.timer.specs.Bus.{control_word_refused, control_word_written, timer_read}
 use Rattle.timer_latch.specs.Happenings.{Chip, ChipEvent, control, after_write, next, chip_after, same_counter}
 use Rattle.timer_latch.specs.Happenings.{sc_of, latch_command, Unread}
-use Rattle.timer.specs.declared.accesses.Written.{Written}
-use Rattle.timer.specs.declared.accesses.Written.TheVariants.{Accepted}
+use Rattle.base.specs.declared.Refusal.{Refusal}
 
 -- a counter for two-byte counts with the count v latched, and its first byte read or not
 pub record LatchHeld (m : Mode) (v : ℕ) (half : Bool) (c : Counter) : Type 0 where
-  pub set : setup_of c.control ≡ Programmed TwoBytes m
+  pub set : setup_of c.control ≡ Some (TwoBytes, m)
   pub latched : on c.bus.latched ≡ true
   pub latch : c.bus.latch ≡ v
   pub halfread : on c.bus.halfread ≡ half
@@ -102,7 +100,7 @@ unfolding command
 is-latch s x h = rw (rw_latched s x h)
 
 latch_accepted : (t : Timer) (s : Select) (x : ℕ) → x < 16 → (g : Gates)
-    → control_word_written t (latch_command s x) g ≡ Accepted (moved t s (latched_as (setup_of (counter_of t s).control) (counter_of t s)) g)
+    → control_word_written t (latch_command s x) g ≡ Ok (moved t s (latched_as (setup_of (counter_of t s).control) (counter_of t s)) g)
 unfolding control_word_written control_word_refused word_refused commanded
 latch_accepted t Counter0 x h g = rw (is-latch Counter0 x h, sc_latched Counter0 x h)
 latch_accepted t Counter1 x h g = rw (is-latch Counter1 x h, sc_latched Counter1 x h)
@@ -116,7 +114,7 @@ module _ (m : Mode) where
       → LatchHeld m (counter_of c.timer s).count.element false (counter_of (next c (control (latch_command s x))).timer s)
   latch-held c s x h u =
       let v = (counter_of c.timer s).count.element in
-      subst⁻¹ (λ (w : Written). LatchHeld m v false (counter_of (after_write c.timer w) s)) (latch_accepted c.timer s x h c.levels)
+      subst⁻¹ (λ (w : Result Timer Refusal). LatchHeld m v false (counter_of (after_write c.timer w) s)) (latch_accepted c.timer s x h c.levels)
       (moved_same (LatchHeld m v false) pulsed-held c.timer s _ c.levels (latched-held (counter_of c.timer s) u))
 
   -- ---- the two reads

@@ -1,23 +1,23 @@
 -- What an A/D code stands for, in volts (manual, chapter 9.3; the specification, "Volts").
-use Rattle.std.specs.Prelude.{◌≡◌, Bool, true, false, ℕ, ◌*◌, ◌/◌, ◌^◌, ℤ, pos, negsuc, nat_abs, ◌+ℤ◌, ◌*ℤ◌, Float}
+use Rattle.std.specs.Prelude.{◌≡◌, Bool, true, false, ℕ, ◌*◌, ◌/◌, ◌^◌, ℤ, pos, negsuc, nat_abs, ◌+ℤ◌, ◌*ℤ◌, Float, Option, Some, None}
 use Rattle.std.specs.Float.{binary64}
 use Rattle.std.specs.Float.Ieee.{round}
 use Rattle.std.specs.Float.Ieee.Exact.{HasValue}
 use Rattle.volts.specs.declared.Voltage.{Voltage}
 use Rattle.volts.specs.declared.Voltage.TheVariants.{Volts, Refused}
 use Rattle.volts.specs.declared.Scale.{Scale}
-use Rattle.volts.specs.declared.Scale.TheVariants.{Bipolar, Unipolar, Invalid}
+use Rattle.volts.specs.declared.Scale.TheVariants.{Bipolar, Unipolar}
 use Rattle.volts.specs.Table.{RangeRow, valid, invalid, absent, bipolar, unipolar, row_of}
 
 -- The full-scale voltage FS is the range over the gain.
 abbrev pub full_scale : ℕ → ℕ → Float
 full_scale range gain = round binary64 false range gain
 
-abbrev pub scale_of : RangeRow → Scale
-scale_of (valid bipolar range gain) = Bipolar (full_scale range gain)
-scale_of (valid unipolar range gain) = Unipolar (full_scale range gain)
-scale_of (invalid p range gain) = Invalid
-scale_of absent = Invalid
+abbrev pub scale_of : RangeRow → Option Scale
+scale_of (valid bipolar range gain) = Some (Bipolar (full_scale range gain))
+scale_of (valid unipolar range gain) = Some (Unipolar (full_scale range gain))
+scale_of (invalid p range gain) = None
+scale_of absent = None
 
 -- So many times 2 ^ -18 volts, or no volts at all.
 pub data InputVoltage : Type 0 where

@@ -12,10 +12,10 @@ const INFINITE: u64 = 0x7FF0_0000_0000_0000;
 fn answer(code: i16, range: u32) -> Voltage
     ensures { result ≡ voltage (input_voltage_of code range) }
 {
-    if range > 255 {
-        return Voltage::Refused(13);
+    match u8::try_from(range) {
+        Ok(range) => crate::volts(code, range),
+        Err(_) => Voltage::Refused(13),
     }
-    crate::volts(code, range as u8)
 }
 
 // The volts of an A/D code at a range code; a NaN, which an infinity times 0.0 is, where the range code is refused.

@@ -1,42 +1,28 @@
--- `board_advance::advance` meets its contract, by a law for each way out. Assumes nothing. Written by tools/ways.py.
-use Rattle.std.proofs.Common.{ap, not}
+-- `board_advance::advance` meets its contract, by a law for each way out. Assumes nothing.
 use mathlib.Core.Path.{refl}
 use Rattle.board_advance.proofs.Ends as ends
 use Rattle.board_step.specs.Ways as ways
 use Rattle.board_advance.proofs.advance.Goals as goal
 
 pub stride-s-requires : goal.stride-s-requires
-stride-s-requires c = (ways.works c.is_working.ensures (ap not c.if-not-is_working.false)).machine
+stride-s-requires c = (ways.works_on c.args.board c.args.memory.now c.args.eeprom.now c.check.ensures c.in_default.is).machine
 
-pub returns-then-memory-eeprom : goal.returns-then-memory-eeprom
-returns-then-memory-eeprom c =
+pub returns-in-Err : goal.returns-in-Err
+returns-in-Err c =
     record {
-      value = ends.wrong c.args.board c.args.memory.now c.args.eeprom.now
-          c.args.ticks c.if-memory-eeprom.true;
+      value = ends.stopped c.args.board c.args.memory.now c.args.eeprom.now c.args.ticks c.check.ensures c.in-Err.is;
       memory_unchanged = refl;
       eeprom_unchanged = refl;
     }
 
-pub returns-then-not-is_working : goal.returns-then-not-is_working
-returns-then-not-is_working c =
-    record {
-      value = ends.broken c.args.board c.args.memory.now
-          c.args.eeprom.now c.args.ticks
-          c.if-memory-eeprom.false c.is_working.ensures (ap not c.if-not-is_working.true);
-      memory_unchanged = refl;
-      eeprom_unchanged = refl;
-    }
-
-pub returns-else-not-is_working : goal.returns-else-not-is_working
-returns-else-not-is_working c =
+pub returns-in_default : goal.returns-in_default
+returns-in_default c =
     record {
       value = ends.brought c.args.board
           c.args.memory.now
           c.args.eeprom.now
           c.args.ticks
-          (ways.opened c.if-memory-eeprom.false
-          c.is_working.ensures
-          (ap not c.if-not-is_working.false))
+          (ways.passed c.check.ensures c.in_default.is)
           c.stride-s.ensures
           c.busy_after-busy.ensures c.ask_timer-c.ensures
           c.trigger-c.ensures;

@@ -7,5 +7,5 @@ run-requires c = c.requires.clocks
 
 pub returns : goal.returns
 returns c =
-    ends.strides c.args.b c.args.ticks c.gates_at-g.ensures
+    ends.strides c.args.b c.args.ticks c.gates_at.ensures
     c.heeds_0.ensures c.heeds_2.ensures c.run.ensures

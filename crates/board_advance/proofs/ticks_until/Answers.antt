@@ -1,23 +1,14 @@
--- `board_advance::ticks_until` meets its contract, by a law for each way out. Assumes nothing. Written by tools/ways.py.
-use Rattle.std.proofs.Common.{not}
-use mathlib.Core.Path.{ap}
-use Rattle.board_advance.specs.declared.Advanced.{Advanced}
+-- `board_advance::ticks_until` meets its contract, by a law for each way out. Assumes nothing.
+use Rattle.std.proofs.Common.{ap, not, ◌∙◌}
+use Rattle.std.proofs.Math.Path.{sym}
 use Rattle.board_advance.proofs.Ends as ends
 use Rattle.board_step.specs.Ways as ways
 use Rattle.board_advance.proofs.ticks_until.Goals as goal
 
-pub returns-then-memory-eeprom : goal.returns-then-memory-eeprom
-returns-then-memory-eeprom c =
-    ap (λ (r : Advanced). r.progress.done)
-    (ends.wrong c.args.board c.args.memory.now c.args.eeprom.now
-    c.args.most c.if-memory-eeprom.true)
-
-pub returns-then-not-is_working : goal.returns-then-not-is_working
-returns-then-not-is_working c =
-    ap (λ (r : Advanced). r.progress.done)
-    (ends.broken c.args.board c.args.memory.now
-    c.args.eeprom.now c.args.most c.if-memory-eeprom.false
-    c.is_working.ensures (ap not c.if-not-is_working.true))
+pub returns-then-is_err : goal.returns-then-is_err
+returns-then-is_err c =
+    ends.none_done c.args.board c.args.memory.now c.args.eeprom.now c.args.most c.check.ensures
+    (sym c.is_err.ensures.value ∙ c.if-is_err.true)
 
 pub returns-then-not-heeds_0-heeds_2 : goal.returns-then-not-heeds_0-heeds_2
 returns-then-not-heeds_0-heeds_2 c =
@@ -25,11 +16,14 @@ returns-then-not-heeds_0-heeds_2 c =
     c.args.memory.now
     c.args.eeprom.now
     c.args.most
-    (ways.opened c.if-memory-eeprom.false c.is_working.ensures
-    (ap not c.if-not-is_working.false)) c.heeds_0.ensures c.heeds_2.ensures (ap not c.if-not-heeds_0-heeds_2.true)
+    (ways.unstopped c.check.ensures (sym c.is_err.ensures.value ∙ c.if-is_err.false))
+    c.heeds_0.ensures c.heeds_2.ensures (ap not c.if-not-heeds_0-heeds_2.true)
 
 pub stride-s-requires : goal.stride-s-requires
-stride-s-requires c = (ways.works c.is_working.ensures (ap not c.if-not-is_working.false)).machine
+stride-s-requires c =
+    let o : ways.Opened c.args.board c.args.memory.now c.args.eeprom.now =
+    ways.unstopped c.check.ensures (sym c.is_err.ensures.value ∙ c.if-is_err.false) in
+    (ways.working o).machine
 
 pub returns : goal.returns
 returns c =
@@ -37,5 +31,4 @@ returns c =
     c.args.memory.now
     c.args.eeprom.now
     c.args.most
-    (ways.opened c.if-memory-eeprom.false c.is_working.ensures
-    (ap not c.if-not-is_working.false)) c.stride-s.ensures
+    (ways.unstopped c.check.ensures (sym c.is_err.ensures.value ∙ c.if-is_err.false)) c.stride-s.ensures

@@ -1,6 +1,5 @@
 -- `board_reads::read_byte` meets its contract, by a law for each way out. Assumes nothing.
 use Rattle.std.proofs.Common.{ap, not}
-use borrow.Author.Rules.{rules}
 use mathlib.Core.Path.{refl, ap, ◌∙◌}
 use Rattle.fifo.specs.Samples.{low_byte_of, high_byte_of}
 use Rattle.bus.specs.Registers.{read_checks, byte_at, after_read, read_effect}
@@ -19,8 +18,7 @@ oldest-requires-in-Base1 c = (ways.works c.is_working.ensures (ap not c.if-not-i
 
 pub pop-f-requires : goal.pop-f-requires
 pop-f-requires c =
-    (ways.works c.is_working.ensures
-    (ap not c.if-not-is_working.false)).fifo
+    (ways.works c.is_working.ensures (ap not c.if-not-is_working.false)).fifo
 
 pub overflow_add-answer : goal.overflow_add-answer
 overflow_add-answer c =
@@ -45,13 +43,11 @@ overflow_add-answer-in-Base7 c =
     )
 
 pub returns-then-memory-eeprom : goal.returns-then-memory-eeprom
-unfolding read_checks read_effect byte_at after_read
 returns-then-memory-eeprom c =
     ways.wrong c.args.board c.args.memory.now c.args.eeprom.now _
     c.if-memory-eeprom.true
 
 pub returns-then-not-is_working : goal.returns-then-not-is_working
-unfolding read_checks read_effect byte_at after_read
 returns-then-not-is_working c =
     ways.broken c.args.board c.args.memory.now
     c.args.eeprom.now _ c.if-memory-eeprom.false c.is_working.ensures
@@ -64,8 +60,7 @@ returns-in-Base0 c =
     c.args.memory.now
     c.args.eeprom.now
     c.args.offset
-    (ways.opened c.if-memory-eeprom.false
-    c.is_working.ensures (ap not c.if-not-is_working.false))
+    (ways.opened c.if-memory-eeprom.false c.is_working.ensures (ap not c.if-not-is_working.false))
     c.find-p.ensures c.in-Base0.is refl refl refl refl
     (c.low_byte.ensures ∙ ap low_byte_of c.oldest.ensures)
 
@@ -77,9 +72,7 @@ returns-in-Base1 c =
     c.args.memory.now
     c.args.eeprom.now
     c.args.offset
-    (ways.opened c.if-memory-eeprom.false
-    c.is_working.ensures
-    (ap not c.if-not-is_working.false))
+    (ways.opened c.if-memory-eeprom.false c.is_working.ensures (ap not c.if-not-is_working.false))
     c.find-p.ensures
     c.in-Base1.is refl refl refl
     (c.high_byte-v.ensures ∙ ap high_byte_of c.oldest-in-Base1.ensures)
@@ -92,8 +85,7 @@ returns-in-Base2 c =
     c.args.memory.now
     c.args.eeprom.now
     c.args.offset
-    (ways.opened c.if-memory-eeprom.false c.is_working.ensures
-    (ap not c.if-not-is_working.false)) c.find-p.ensures c.in-Base2.is refl refl refl refl refl
+    (ways.opened c.if-memory-eeprom.false c.is_working.ensures (ap not c.if-not-is_working.false)) c.find-p.ensures c.in-Base2.is refl refl refl refl refl
 
 pub returns-in-Base3 : goal.returns-in-Base3
 unfolding read_checks read_effect byte_at after_read
@@ -102,8 +94,7 @@ returns-in-Base3 c =
     c.args.memory.now
     c.args.eeprom.now
     c.args.offset
-    (ways.opened c.if-memory-eeprom.false c.is_working.ensures
-    (ap not c.if-not-is_working.false)) c.find-p.ensures c.in-Base3.is refl refl refl refl refl
+    (ways.opened c.if-memory-eeprom.false c.is_working.ensures (ap not c.if-not-is_working.false)) c.find-p.ensures c.in-Base3.is refl refl refl refl refl
 
 pub returns-in-Base4 : goal.returns-in-Base4
 unfolding read_checks read_effect byte_at after_read
@@ -112,8 +103,7 @@ returns-in-Base4 c =
     c.args.memory.now
     c.args.eeprom.now
     c.args.offset
-    (ways.opened c.if-memory-eeprom.false c.is_working.ensures
-    (ap not c.if-not-is_working.false)) c.find-p.ensures c.in-Base4.is refl refl refl refl
+    (ways.opened c.if-memory-eeprom.false c.is_working.ensures (ap not c.if-not-is_working.false)) c.find-p.ensures c.in-Base4.is refl refl refl refl
     c.input_bits.ensures
 
 pub returns-in-Base5 : goal.returns-in-Base5
@@ -123,8 +113,7 @@ returns-in-Base5 c =
     c.args.memory.now
     c.args.eeprom.now
     c.args.offset
-    (ways.opened c.if-memory-eeprom.false
-    c.is_working.ensures (ap not c.if-not-is_working.false))
+    (ways.opened c.if-memory-eeprom.false c.is_working.ensures (ap not c.if-not-is_working.false))
     c.find-p.ensures c.in-Base5.is refl refl refl (rw c.update-c.ensures)
     c.update_byte-v.ensures
 
@@ -135,8 +124,7 @@ returns-in-Base6 c =
     c.args.memory.now
     c.args.eeprom.now
     c.args.offset
-    (ways.opened c.if-memory-eeprom.false c.is_working.ensures
-    (ap not c.if-not-is_working.false)) c.find-p.ensures c.in-Base6.is refl refl refl refl refl
+    (ways.opened c.if-memory-eeprom.false c.is_working.ensures (ap not c.if-not-is_working.false)) c.find-p.ensures c.in-Base6.is refl refl refl refl refl
 
 pub returns-in-Base7 : goal.returns-in-Base7
 unfolding read_checks read_effect byte_at after_read
@@ -145,8 +133,7 @@ returns-in-Base7 c =
     c.args.memory.now
     c.args.eeprom.now
     c.args.offset
-    (ways.opened c.if-memory-eeprom.false
-    c.is_working.ensures (ap not c.if-not-is_working.false))
+    (ways.opened c.if-memory-eeprom.false c.is_working.ensures (ap not c.if-not-is_working.false))
     c.find-p.ensures c.in-Base7.is refl refl refl refl
     (rw (c.mode_bits-modes.ensures, c.flag_bits-flags.ensures))
 
@@ -157,8 +144,7 @@ returns-in-Base8 c =
     c.args.memory.now
     c.args.eeprom.now
     c.args.offset
-    (ways.opened c.if-memory-eeprom.false c.is_working.ensures
-    (ap not c.if-not-is_working.false)) c.find-p.ensures c.in-Base8.is refl refl refl refl
+    (ways.opened c.if-memory-eeprom.false c.is_working.ensures (ap not c.if-not-is_working.false)) c.find-p.ensures c.in-Base8.is refl refl refl refl
     c.ad_bits.ensures
 
 pub returns-in-Base9 : goal.returns-in-Base9
@@ -168,8 +154,7 @@ returns-in-Base9 c =
     c.args.memory.now
     c.args.eeprom.now
     c.args.offset
-    (ways.opened c.if-memory-eeprom.false c.is_working.ensures
-    (ap not c.if-not-is_working.false)) c.find-p.ensures c.in-Base9.is refl refl refl refl
+    (ways.opened c.if-memory-eeprom.false c.is_working.ensures (ap not c.if-not-is_working.false)) c.find-p.ensures c.in-Base9.is refl refl refl refl
     c.request_bits.ensures
 
 pub returns-in-Base10 : goal.returns-in-Base10
@@ -179,8 +164,7 @@ returns-in-Base10 c =
     c.args.memory.now
     c.args.eeprom.now
     c.args.offset
-    (ways.opened c.if-memory-eeprom.false c.is_working.ensures
-    (ap not c.if-not-is_working.false)) c.find-p.ensures c.in-Base10.is refl refl refl refl refl
+    (ways.opened c.if-memory-eeprom.false c.is_working.ensures (ap not c.if-not-is_working.false)) c.find-p.ensures c.in-Base10.is refl refl refl refl refl
 
 pub returns-in-Base11 : goal.returns-in-Base11
 unfolding read_checks read_effect byte_at after_read
@@ -189,8 +173,7 @@ returns-in-Base11 c =
     c.args.memory.now
     c.args.eeprom.now
     c.args.offset
-    (ways.opened c.if-memory-eeprom.false c.is_working.ensures
-    (ap not c.if-not-is_working.false)) c.find-p.ensures c.in-Base11.is refl refl refl refl refl
+    (ways.opened c.if-memory-eeprom.false c.is_working.ensures (ap not c.if-not-is_working.false)) c.find-p.ensures c.in-Base11.is refl refl refl refl refl
 
 pub returns-in-Count : goal.returns-in-Count
 unfolding read_checks read_effect byte_at after_read
@@ -199,9 +182,7 @@ returns-in-Count c =
     c.args.memory.now
     c.args.eeprom.now
     c.args.offset
-    (ways.opened c.if-memory-eeprom.false
-    c.is_working.ensures
-    (ap not c.if-not-is_working.false)) c.find-p.ensures
+    (ways.opened c.if-memory-eeprom.false c.is_working.ensures (ap not c.if-not-is_working.false)) c.find-p.ensures
     c.in-Count.is refl refl refl (simp (c.put_timer-c.ensures, c.read-r.ensures))
     (rw c.read-r.ensures)
 
@@ -212,8 +193,7 @@ returns-in-ControlWord c =
     c.args.memory.now
     c.args.eeprom.now
     c.args.offset
-    (ways.opened c.if-memory-eeprom.false c.is_working.ensures
-    (ap not c.if-not-is_working.false)) c.find-p.ensures c.in-ControlWord.is refl refl refl refl refl
+    (ways.opened c.if-memory-eeprom.false c.is_working.ensures (ap not c.if-not-is_working.false)) c.find-p.ensures c.in-ControlWord.is refl refl refl refl refl
 
 pub returns-in-PortData : goal.returns-in-PortData
 unfolding read_checks read_effect byte_at after_read
@@ -222,8 +202,7 @@ returns-in-PortData c =
     c.args.memory.now
     c.args.eeprom.now
     c.args.offset
-    (ways.opened c.if-memory-eeprom.false
-    c.is_working.ensures (ap not c.if-not-is_working.false))
+    (ways.opened c.if-memory-eeprom.false c.is_working.ensures (ap not c.if-not-is_working.false))
     c.find-p.ensures c.in-PortData.is refl refl refl refl c.read.ensures
 
 pub returns-in-PortControl : goal.returns-in-PortControl
@@ -233,8 +212,7 @@ returns-in-PortControl c =
     c.args.memory.now
     c.args.eeprom.now
     c.args.offset
-    (ways.opened c.if-memory-eeprom.false c.is_working.ensures
-    (ap not c.if-not-is_working.false)) c.find-p.ensures c.in-PortControl.is refl refl refl refl
+    (ways.opened c.if-memory-eeprom.false c.is_working.ensures (ap not c.if-not-is_working.false)) c.find-p.ensures c.in-PortControl.is refl refl refl refl
     c.read_control.ensures
 
 pub returns-in-Reserved : goal.returns-in-Reserved
@@ -244,8 +222,7 @@ returns-in-Reserved c =
     c.args.memory.now
     c.args.eeprom.now
     c.args.offset
-    (ways.opened c.if-memory-eeprom.false c.is_working.ensures
-    (ap not c.if-not-is_working.false)) c.find-p.ensures c.in-Reserved.is refl refl refl refl refl
+    (ways.opened c.if-memory-eeprom.false c.is_working.ensures (ap not c.if-not-is_working.false)) c.find-p.ensures c.in-Reserved.is refl refl refl refl refl
 
 pub returns-in-Auxiliary : goal.returns-in-Auxiliary
 unfolding read_checks read_effect byte_at after_read
@@ -254,8 +231,7 @@ returns-in-Auxiliary c =
     c.args.memory.now
     c.args.eeprom.now
     c.args.offset
-    (ways.opened c.if-memory-eeprom.false c.is_working.ensures
-    (ap not c.if-not-is_working.false)) c.find-p.ensures c.in-Auxiliary.is refl refl
+    (ways.opened c.if-memory-eeprom.false c.is_working.ensures (ap not c.if-not-is_working.false)) c.find-p.ensures c.in-Auxiliary.is refl refl
 
 pub returns-in-CalData : goal.returns-in-CalData
 unfolding read_checks read_effect byte_at after_read
@@ -264,8 +240,7 @@ returns-in-CalData c =
     c.args.memory.now
     c.args.eeprom.now
     c.args.offset
-    (ways.opened c.if-memory-eeprom.false c.is_working.ensures
-    (ap not c.if-not-is_working.false)) c.find-p.ensures c.in-CalData.is refl refl refl refl
+    (ways.opened c.if-memory-eeprom.false c.is_working.ensures (ap not c.if-not-is_working.false)) c.find-p.ensures c.in-CalData.is refl refl refl refl
     c.read_value.ensures
 
 pub returns-in-CalAddress : goal.returns-in-CalAddress
@@ -275,8 +250,7 @@ returns-in-CalAddress c =
     c.args.memory.now
     c.args.eeprom.now
     c.args.offset
-    (ways.opened c.if-memory-eeprom.false c.is_working.ensures
-    (ap not c.if-not-is_working.false)) c.find-p.ensures c.in-CalAddress.is refl refl refl refl
+    (ways.opened c.if-memory-eeprom.false c.is_working.ensures (ap not c.if-not-is_working.false)) c.find-p.ensures c.in-CalAddress.is refl refl refl refl
     c.read_address.ensures
 
 pub returns-in-CalBase14 : goal.returns-in-CalBase14
@@ -286,8 +260,7 @@ returns-in-CalBase14 c =
     c.args.memory.now
     c.args.eeprom.now
     c.args.offset
-    (ways.opened c.if-memory-eeprom.false c.is_working.ensures
-    (ap not c.if-not-is_working.false)) c.find-p.ensures c.in-CalBase14.is refl refl refl refl
+    (ways.opened c.if-memory-eeprom.false c.is_working.ensures (ap not c.if-not-is_working.false)) c.find-p.ensures c.in-CalBase14.is refl refl refl refl
     c.read_status.ensures
 
 pub returns-in-CalBase15 : goal.returns-in-CalBase15
@@ -297,8 +270,7 @@ returns-in-CalBase15 c =
     c.args.memory.now
     c.args.eeprom.now
     c.args.offset
-    (ways.opened c.if-memory-eeprom.false c.is_working.ensures
-    (ap not c.if-not-is_working.false)) c.find-p.ensures c.in-CalBase15.is refl refl refl refl
+    (ways.opened c.if-memory-eeprom.false c.is_working.ensures (ap not c.if-not-is_working.false)) c.find-p.ensures c.in-CalBase15.is refl refl refl refl
     c.read_revision.ensures
 
 pub returns-in-Outside : goal.returns-in-Outside
@@ -308,5 +280,4 @@ returns-in-Outside c =
     c.args.memory.now
     c.args.eeprom.now
     c.args.offset
-    (ways.opened c.if-memory-eeprom.false c.is_working.ensures
-    (ap not c.if-not-is_working.false)) c.find-p.ensures c.in-Outside.is refl refl
+    (ways.opened c.if-memory-eeprom.false c.is_working.ensures (ap not c.if-not-is_working.false)) c.find-p.ensures c.in-Outside.is refl refl

@@ -1,6 +1,5 @@
 -- `board_reads::read_word` meets its contract, by a law for each way out. Assumes nothing.
 use Rattle.std.proofs.Common.{ap, not}
-use borrow.Author.Rules.{rules}
 use Rattle.board_reads.proofs.Arms as arms
 use Rattle.board_step.specs.Ways as ways
 use Rattle.board_reads.proofs.read_word.Goals as goal
@@ -8,10 +7,9 @@ use Rattle.board_reads.proofs.read_word.Goals as goal
 pub oldest-requires : goal.oldest-requires
 oldest-requires c = (ways.works c.is_working.ensures (ap not c.if-not-is_working.false)).fifo
 
-pub pop-f-requires : goal.pop-f-requires
-pop-f-requires c =
-    (ways.works c.is_working.ensures
-    (ap not c.if-not-is_working.false)).fifo
+pub pop-c-requires : goal.pop-c-requires
+pop-c-requires c =
+    (ways.works c.is_working.ensures (ap not c.if-not-is_working.false)).fifo
 
 pub returns-then-memory-eeprom : goal.returns-then-memory-eeprom
 returns-then-memory-eeprom c =
@@ -31,25 +29,22 @@ returns-then-offset-ne0 c =
     c.args.eeprom.now c.args.offset
     (ways.opened c.if-memory-eeprom.false c.is_working.ensures (ap not c.if-not-is_working.false)) c.if-offset-ne0.true
 
-pub returns-in-NoneHeld : goal.returns-in-NoneHeld
-returns-in-NoneHeld c =
+pub returns-in-None : goal.returns-in-None
+returns-in-None c =
     arms.word-nothing c.args.board
     c.args.memory.now
     c.args.eeprom.now
     c.args.offset
-    (ways.opened c.if-memory-eeprom.false
-    c.is_working.ensures (ap not c.if-not-is_working.false))
-    c.if-offset-ne0.false c.oldest.ensures c.in-NoneHeld.is
+    (ways.opened c.if-memory-eeprom.false c.is_working.ensures (ap not c.if-not-is_working.false))
+    c.if-offset-ne0.false c.oldest.ensures c.in-None.is
 
-pub returns-in-Sample : goal.returns-in-Sample
-returns-in-Sample c =
+pub returns-in-Some : goal.returns-in-Some
+returns-in-Some c =
     arms.word c.args.board
     c.args.memory.now
     c.args.eeprom.now
     c.args.offset
-    (ways.opened c.if-memory-eeprom.false
-    c.is_working.ensures
-    (ap not c.if-not-is_working.false))
+    (ways.opened c.if-memory-eeprom.false c.is_working.ensures (ap not c.if-not-is_working.false))
     c.if-offset-ne0.false
-    c.oldest.ensures c.in-Sample.is
-    c.pop-f.ensures
+    c.oldest.ensures c.in-Some.is
+    c.pop-c.ensures

@@ -1,4 +1,4 @@
--- `board_signals::conversion_end` meets its contract, by a law for each way out. Assumes nothing. Written by tools/ways.py.
+-- `board_signals::conversion_end` meets its contract, by a law for each way out. Assumes nothing.
 use Rattle.std.proofs.Common.{ap, not}
 use mir.Facts.{to_z-of_z}
 use Rattle.board_signals.proofs.Ends as ends
@@ -33,9 +33,7 @@ returns-then-is_last c =
     c.args.board
     c.args.memory.now
     c.args.eeprom.now _
-    (ways.opened c.if-memory-eeprom.false
-    c.is_working.ensures
-    (ap not c.if-not-is_working.false))
+    (ways.opened c.if-memory-eeprom.false c.is_working.ensures (ap not c.if-not-is_working.false))
     c.if-c-ne1.false
     (rw (to_z-of_z
     c.ranges.code) at
@@ -48,9 +46,7 @@ returns-else-is_last c =
     c.args.board
     c.args.memory.now
     c.args.eeprom.now _
-    (ways.opened c.if-memory-eeprom.false
-    c.is_working.ensures
-    (ap not c.if-not-is_working.false))
+    (ways.opened c.if-memory-eeprom.false c.is_working.ensures (ap not c.if-not-is_working.false))
     c.if-c-ne1.false
     (rw (to_z-of_z
     c.ranges.code) at

@@ -1,4 +1,4 @@
--- `board_signals::latch_level` meets its contract, by a law for each way out. Assumes nothing. Written by tools/ways.py.
+-- `board_signals::latch_level` meets its contract, by a law for each way out. Assumes nothing.
 use Rattle.std.proofs.Common.{ap, not}
 use Rattle.board_signals.proofs.Arms as arms
 use Rattle.board_step.specs.Ways as ways
@@ -21,5 +21,4 @@ returns-else-not-is_working c =
     c.args.memory.now
     c.args.eeprom.now
     c.args.level
-    (ways.opened c.if-memory-eeprom.false c.is_working.ensures
-    (ap not c.if-not-is_working.false)) c.ask_latch-c.ensures
+    (ways.opened c.if-memory-eeprom.false c.is_working.ensures (ap not c.if-not-is_working.false)) c.ask_latch-c.ensures

@@ -1,4 +1,4 @@
--- `board_signals::port_pins` meets its contract, by a law for each way out. Assumes nothing. Written by tools/ways.py.
+-- `board_signals::port_pins` meets its contract, by a law for each way out. Assumes nothing.
 use Rattle.std.proofs.Common.{ap, not}
 use Rattle.board_signals.proofs.Arms as arms
 use Rattle.board_step.specs.Ways as ways

@@ -1,4 +1,4 @@
--- `board_signals::tick` meets its contract, by a law for each way out. Assumes nothing. Written by tools/ways.py.
+-- `board_signals::tick` meets its contract, by a law for each way out. Assumes nothing.
 use Rattle.std.proofs.Common.{ap, not}
 use Rattle.board_signals.proofs.Ticks as ticks
 use Rattle.board_step.specs.Ways as ways
@@ -6,25 +6,19 @@ use Rattle.board_signals.proofs.tick.Goals as goal
 
 pub pulse_if-k0-requires : goal.pulse_if-k0-requires
 pulse_if-k0-requires c =
-    (ways.works c.is_working.ensures
-    (ap not c.if-not-is_working.false)).machine.clocks.timer.counter0
+    (ways.works c.is_working.ensures (ap not c.if-not-is_working.false)).machine.clocks.timer.counter0
 
 pub pulse_working-k1-requires : goal.pulse_working-k1-requires
 pulse_working-k1-requires c =
     rw c.put_timer-c.ensures
-    (ways.works
-    c.is_working.ensures
-    (ap not c.if-not-is_working.false)
-    ).machine.clocks.timer.counter1
+    (ways.works c.is_working.ensures (ap not c.if-not-is_working.false)).machine.clocks.timer.counter1
 
 pub pulse_working-k2-requires : goal.pulse_working-k2-requires
 pulse_working-k2-requires c =
     rw (
       c.put_timer-c-then-clocks_1.ensures,
       c.put_timer-c.ensures,
-    ) (ways.works
-    c.is_working.ensures
-    (ap not c.if-not-is_working.false)).machine.clocks.timer.counter2
+    ) (ways.works c.is_working.ensures (ap not c.if-not-is_working.false)).machine.clocks.timer.counter2
 
 pub returns-then-memory-eeprom : goal.returns-then-memory-eeprom
 returns-then-memory-eeprom c =
@@ -43,10 +37,7 @@ returns-then-has_fallen c =
     c.args.board
     c.args.memory.now
     c.args.eeprom.now
-    (ways.opened
-    c.if-memory-eeprom.false
-    c.is_working.ensures
-    (ap not c.if-not-is_working.false))
+    (ways.opened c.if-memory-eeprom.false c.is_working.ensures (ap not c.if-not-is_working.false))
     c.next_tick-hundred.ensures
     c.next_tick-thousand.ensures
     (ticks.first
@@ -87,10 +78,7 @@ returns-else-has_fallen c =
     c.args.board
     c.args.memory.now
     c.args.eeprom.now
-    (ways.opened
-    c.if-memory-eeprom.false
-    c.is_working.ensures
-    (ap not c.if-not-is_working.false))
+    (ways.opened c.if-memory-eeprom.false c.is_working.ensures (ap not c.if-not-is_working.false))
     c.next_tick-hundred.ensures
     c.next_tick-thousand.ensures
     (ticks.first
@@ -120,9 +108,7 @@ returns-else-clocks_1 c =
     c.args.board
     c.args.memory.now
     c.args.eeprom.now
-    (ways.opened
-    c.if-memory-eeprom.false
-    c.is_working.ensures (ap not c.if-not-is_working.false))
+    (ways.opened c.if-memory-eeprom.false c.is_working.ensures (ap not c.if-not-is_working.false))
     c.next_tick-hundred.ensures
     c.next_tick-thousand.ensures
     (ticks.first

@@ -1,4 +1,4 @@
--- `board_signals::transfer_end` meets its contract, by a law for each way out. Assumes nothing. Written by tools/ways.py.
+-- `board_signals::transfer_end` meets its contract, by a law for each way out. Assumes nothing.
 use Rattle.std.proofs.Common.{ap, not}
 use borrow.Author.Rules.{rules}
 use Rattle.board_signals.proofs.Arms as arms
@@ -37,6 +37,5 @@ returns-else-is_idle c =
     arms.transfer c.args.board
     c.args.memory.now
     c.args.eeprom.now
-    (ways.opened c.if-memory-eeprom.false
-    c.is_working.ensures (ap not c.if-not-is_working.false))
+    (ways.opened c.if-memory-eeprom.false c.is_working.ensures (ap not c.if-not-is_working.false))
     c.is_idle.ensures c.if-is_idle.false (c.end_transfer-c.ensures.value, c.end_transfer-c.ensures.eeprom_after)

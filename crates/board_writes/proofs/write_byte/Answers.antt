@@ -1,6 +1,6 @@
--- `board_writes::write_byte` meets its contract, by a law for each way out. Assumes nothing. Written by tools/ways.py.
+-- `board_writes::write_byte` meets its contract, by a law for each way out. Assumes nothing.
 use Rattle.std.proofs.Common.{ap, not}
-use mathlib.Core.Path.{refl, sym, ◌∙◌}
+use mathlib.Core.Path.{refl, sym}
 use borrow.Author.Tests.{ne_eqb}
 use Rattle.bus.specs.Registers.{write_checks, written_at, write_effect}
 use Rattle.machine_clock.specs.Clock.{counting_written}
@@ -10,22 +10,18 @@ use Rattle.board_writes.proofs.write_byte.Goals as goal
 
 pub clear-f-requires : goal.clear-f-requires
 clear-f-requires c =
-    (ways.works c.is_working.ensures
-    (ap not c.if-not-is_working.false)).fifo.long
+    (ways.works c.is_working.ensures (ap not c.if-not-is_working.false)).fifo.long
 
 pub clear-f-requires-then-is_reset : goal.clear-f-requires-then-is_reset
 clear-f-requires-then-is_reset c =
-    (ways.works c.is_working.ensures
-    (ap not c.if-not-is_working.false)).fifo.long
+    (ways.works c.is_working.ensures (ap not c.if-not-is_working.false)).fifo.long
 
 pub returns-then-memory-eeprom : goal.returns-then-memory-eeprom
-unfolding write_checks write_effect written_at counting_written
 returns-then-memory-eeprom c =
     ways.wrong c.args.board c.args.memory.now c.args.eeprom.now _
     c.if-memory-eeprom.true
 
 pub returns-then-not-is_working : goal.returns-then-not-is_working
-unfolding write_checks write_effect written_at counting_written
 returns-then-not-is_working c =
     ways.broken c.args.board c.args.memory.now
     c.args.eeprom.now _ c.if-memory-eeprom.false c.is_working.ensures
@@ -39,8 +35,7 @@ returns-in-Base0 c =
     c.args.eeprom.now
     c.args.offset
     c.args.value
-    (ways.opened c.if-memory-eeprom.false c.is_working.ensures
-    (ap not c.if-not-is_working.false)) c.find-p.ensures c.in-Base0.is refl refl refl
+    (ways.opened c.if-memory-eeprom.false c.is_working.ensures (ap not c.if-not-is_working.false)) c.find-p.ensures c.in-Base0.is refl refl refl
     (rw c.software_trigger-c.ensures)
 
 pub returns-in-Base1 : goal.returns-in-Base1
@@ -51,8 +46,7 @@ returns-in-Base1 c =
     c.args.eeprom.now
     c.args.offset
     c.args.value
-    (ways.opened c.if-memory-eeprom.false c.is_working.ensures
-    (ap not c.if-not-is_working.false)) c.find-p.ensures c.in-Base1.is refl refl refl refl
+    (ways.opened c.if-memory-eeprom.false c.is_working.ensures (ap not c.if-not-is_working.false)) c.find-p.ensures c.in-Base1.is refl refl refl refl
 
 pub returns-in-Base2 : goal.returns-in-Base2
 unfolding write_checks write_effect written_at counting_written
@@ -62,8 +56,7 @@ returns-in-Base2 c =
     c.args.eeprom.now
     c.args.offset
     c.args.value
-    (ways.opened c.if-memory-eeprom.false c.is_working.ensures
-    (ap not c.if-not-is_working.false)) c.find-p.ensures c.in-Base2.is refl refl refl
+    (ways.opened c.if-memory-eeprom.false c.is_working.ensures (ap not c.if-not-is_working.false)) c.find-p.ensures c.in-Base2.is refl refl refl
     (rw c.write_low-c.ensures)
 
 pub returns-in-Base3 : goal.returns-in-Base3
@@ -74,8 +67,7 @@ returns-in-Base3 c =
     c.args.eeprom.now
     c.args.offset
     c.args.value
-    (ways.opened c.if-memory-eeprom.false c.is_working.ensures
-    (ap not c.if-not-is_working.false)) c.find-p.ensures c.in-Base3.is refl refl refl
+    (ways.opened c.if-memory-eeprom.false c.is_working.ensures (ap not c.if-not-is_working.false)) c.find-p.ensures c.in-Base3.is refl refl refl
     (rw c.write_high-c.ensures)
 
 pub returns-then-is_busy : goal.returns-then-is_busy
@@ -86,8 +78,7 @@ returns-then-is_busy c =
     c.args.eeprom.now
     c.args.offset
     c.args.value
-    (ways.opened c.if-memory-eeprom.false
-    c.is_working.ensures (ap not c.if-not-is_working.false))
+    (ways.opened c.if-memory-eeprom.false c.is_working.ensures (ap not c.if-not-is_working.false))
     c.find-p.ensures c.in-Base4.is (ways.chosen _ _ c.is_busy.ensures c.if-is_busy.true)
     refl
 
@@ -99,8 +90,7 @@ returns-else-is_busy c =
     c.args.eeprom.now
     c.args.offset
     c.args.value
-    (ways.opened c.if-memory-eeprom.false
-    c.is_working.ensures (ap not c.if-not-is_working.false))
+    (ways.opened c.if-memory-eeprom.false c.is_working.ensures (ap not c.if-not-is_working.false))
     c.find-p.ensures c.in-Base4.is
     (ways.passed_over _ _ c.is_busy.ensures c.if-is_busy.false) refl refl (rw c.write_lsb-c.ensures)
 
@@ -112,8 +102,7 @@ returns-then-is_busy-2 c =
     c.args.eeprom.now
     c.args.offset
     c.args.value
-    (ways.opened c.if-memory-eeprom.false
-    c.is_working.ensures (ap not c.if-not-is_working.false))
+    (ways.opened c.if-memory-eeprom.false c.is_working.ensures (ap not c.if-not-is_working.false))
     c.find-p.ensures c.in-Base5.is
     (ways.chosen _ _ c.is_busy-in-Base5.ensures c.if-is_busy-2.true) refl
 
@@ -125,8 +114,7 @@ returns-else-is_busy-2 c =
     c.args.eeprom.now
     c.args.offset
     c.args.value
-    (ways.opened c.if-memory-eeprom.false
-    c.is_working.ensures (ap not c.if-not-is_working.false))
+    (ways.opened c.if-memory-eeprom.false c.is_working.ensures (ap not c.if-not-is_working.false))
     c.find-p.ensures c.in-Base5.is
     (ways.passed_over _ _ c.is_busy-in-Base5.ensures c.if-is_busy-2.false) refl refl (rw c.write_msb-c.ensures)
 
@@ -138,8 +126,7 @@ returns-in-Base6 c =
     c.args.eeprom.now
     c.args.offset
     c.args.value
-    (ways.opened c.if-memory-eeprom.false c.is_working.ensures
-    (ap not c.if-not-is_working.false)) c.find-p.ensures c.in-Base6.is refl refl refl
+    (ways.opened c.if-memory-eeprom.false c.is_working.ensures (ap not c.if-not-is_working.false)) c.find-p.ensures c.in-Base6.is refl refl refl
     (rw c.write_depth-c.ensures)
 
 pub returns-then-is_fiforst : goal.returns-then-is_fiforst
@@ -151,9 +138,7 @@ returns-then-is_fiforst c =
     c.args.eeprom.now
     c.args.offset
     c.args.value
-    (ways.opened c.if-memory-eeprom.false
-    c.is_working.ensures
-    (ap not c.if-not-is_working.false))
+    (ways.opened c.if-memory-eeprom.false c.is_working.ensures (ap not c.if-not-is_working.false))
     c.find-p.ensures
     c.in-Base7.is refl
     (ways.chosen _ _ c.is_fiforst.ensures c.if-is_fiforst.true)
@@ -171,9 +156,7 @@ returns-else-is_fiforst c =
     c.args.eeprom.now
     c.args.offset
     c.args.value
-    (ways.opened c.if-memory-eeprom.false
-    c.is_working.ensures
-    (ap not c.if-not-is_working.false)) c.find-p.ensures
+    (ways.opened c.if-memory-eeprom.false c.is_working.ensures (ap not c.if-not-is_working.false)) c.find-p.ensures
     c.in-Base7.is refl (ways.passed_over _ _ c.is_fiforst.ensures c.if-is_fiforst.false) refl
     (arms.fifo-put c.args.board
     c.args.value
@@ -188,9 +171,7 @@ returns-then-is_reset c =
     c.args.eeprom.now
     c.args.offset
     c.args.value
-    (ways.opened c.if-memory-eeprom.false
-    c.is_working.ensures
-    (ap not c.if-not-is_working.false))
+    (ways.opened c.if-memory-eeprom.false c.is_working.ensures (ap not c.if-not-is_working.false))
     c.find-p.ensures
     c.in-Base8.is refl
     (ways.chosen _ _ c.is_reset.ensures c.if-is_reset.true)
@@ -208,9 +189,7 @@ returns-then-value-eq1 c =
     c.args.eeprom.now
     c.args.offset
     c.args.value
-    (ways.opened c.if-memory-eeprom.false
-    c.is_working.ensures
-    (ap not c.if-not-is_working.false)) c.find-p.ensures
+    (ways.opened c.if-memory-eeprom.false c.is_working.ensures (ap not c.if-not-is_working.false)) c.find-p.ensures
     c.in-Base8.is refl
     (ways.passed_over _ _ c.is_reset.ensures c.if-is_reset.false) refl
     (arms.misc_cleared c.args.board
@@ -225,9 +204,7 @@ returns-else-value-eq1 c =
     c.args.eeprom.now
     c.args.offset
     c.args.value
-    (ways.opened c.if-memory-eeprom.false
-    c.is_working.ensures
-    (ap not c.if-not-is_working.false)) c.find-p.ensures
+    (ways.opened c.if-memory-eeprom.false c.is_working.ensures (ap not c.if-not-is_working.false)) c.find-p.ensures
     c.in-Base8.is refl
     (ways.passed_over _ _ c.is_reset.ensures c.if-is_reset.false) refl
     (arms.misc_paged c.args.board
@@ -242,8 +219,7 @@ returns-in-Base9 c =
     c.args.eeprom.now
     c.args.offset
     c.args.value
-    (ways.opened c.if-memory-eeprom.false
-    c.is_working.ensures (ap not c.if-not-is_working.false))
+    (ways.opened c.if-memory-eeprom.false c.is_working.ensures (ap not c.if-not-is_working.false))
     c.find-p.ensures c.in-Base9.is refl refl refl
     (rw (c.write_clken-c.ensures, c.write_enables-c.ensures))
 
@@ -256,9 +232,7 @@ returns-then-do_gates_move c =
     c.args.eeprom.now
     c.args.offset
     c.args.value
-    (ways.opened c.if-memory-eeprom.false
-    c.is_working.ensures
-    (ap not c.if-not-is_working.false))
+    (ways.opened c.if-memory-eeprom.false c.is_working.ensures (ap not c.if-not-is_working.false))
     c.find-p.ensures
     c.in-Base10.is refl refl refl
     (rw (
@@ -276,14 +250,11 @@ returns-else-do_gates_move c =
     c.args.eeprom.now
     c.args.offset
     c.args.value
-    (ways.opened c.if-memory-eeprom.false
-    c.is_working.ensures
-    (ap not c.if-not-is_working.false)) c.find-p.ensures
+    (ways.opened c.if-memory-eeprom.false c.is_working.ensures (ap not c.if-not-is_working.false)) c.find-p.ensures
     c.in-Base10.is refl refl refl
     (arms.gates-stay c.args.board
     c.args.value
-    (ways.works c.is_working.ensures
-    (ap not c.if-not-is_working.false)).machine.clocks.timer
+    (ways.works c.is_working.ensures (ap not c.if-not-is_working.false)).machine.clocks.timer
     c.gates_at-was.ensures c.gates_at-is.ensures c.do_gates_move.ensures c.if-do_gates_move.false)
 
 pub returns-in-Base11 : goal.returns-in-Base11
@@ -294,8 +265,7 @@ returns-in-Base11 c =
     c.args.eeprom.now
     c.args.offset
     c.args.value
-    (ways.opened c.if-memory-eeprom.false c.is_working.ensures
-    (ap not c.if-not-is_working.false)) c.find-p.ensures c.in-Base11.is refl refl refl refl
+    (ways.opened c.if-memory-eeprom.false c.is_working.ensures (ap not c.if-not-is_working.false)) c.find-p.ensures c.in-Base11.is refl refl refl refl
 
 pub returns-then-refuses_count : goal.returns-then-refuses_count
 unfolding write_checks write_effect written_at counting_written
@@ -305,8 +275,7 @@ returns-then-refuses_count c =
     c.args.eeprom.now
     c.args.offset
     c.args.value
-    (ways.opened c.if-memory-eeprom.false
-    c.is_working.ensures (ap not c.if-not-is_working.false))
+    (ways.opened c.if-memory-eeprom.false c.is_working.ensures (ap not c.if-not-is_working.false))
     c.find-p.ensures c.in-Count.is
     (ways.chosen _ _ c.refuses_count.ensures c.if-refuses_count.true) refl
 
@@ -318,9 +287,7 @@ returns-else-refuses_count c =
     c.args.eeprom.now
     c.args.offset
     c.args.value
-    (ways.opened c.if-memory-eeprom.false
-    c.is_working.ensures
-    (ap not c.if-not-is_working.false))
+    (ways.opened c.if-memory-eeprom.false c.is_working.ensures (ap not c.if-not-is_working.false))
     c.find-p.ensures c.in-Count.is
     (ways.passed_over _ _ c.refuses_count.ensures c.if-refuses_count.false) refl
     (arms.timer-moved_kept
@@ -336,8 +303,7 @@ returns-then-refuses_control c =
     c.args.eeprom.now
     c.args.offset
     c.args.value
-    (ways.opened c.if-memory-eeprom.false
-    c.is_working.ensures (ap not c.if-not-is_working.false))
+    (ways.opened c.if-memory-eeprom.false c.is_working.ensures (ap not c.if-not-is_working.false))
     c.find-p.ensures c.in-ControlWord.is
     (ways.chosen _ _ c.refuses_control.ensures c.if-refuses_control.true) refl
 
@@ -349,9 +315,7 @@ returns-else-refuses_control c =
     c.args.eeprom.now
     c.args.offset
     c.args.value
-    (ways.opened c.if-memory-eeprom.false
-    c.is_working.ensures
-    (ap not c.if-not-is_working.false)) c.find-p.ensures
+    (ways.opened c.if-memory-eeprom.false c.is_working.ensures (ap not c.if-not-is_working.false)) c.find-p.ensures
     c.in-ControlWord.is
     (ways.passed_over _ _ c.refuses_control.ensures c.if-refuses_control.false) refl
     (arms.timer-moved_kept c.args.board
@@ -366,8 +330,7 @@ returns-in-PortData c =
     c.args.eeprom.now
     c.args.offset
     c.args.value
-    (ways.opened c.if-memory-eeprom.false
-    c.is_working.ensures (ap not c.if-not-is_working.false))
+    (ways.opened c.if-memory-eeprom.false c.is_working.ensures (ap not c.if-not-is_working.false))
     c.find-p.ensures c.in-PortData.is refl refl refl (rw c.write-c.ensures)
 
 pub returns-then-control_refused : goal.returns-then-control_refused
@@ -378,8 +341,7 @@ returns-then-control_refused c =
     c.args.eeprom.now
     c.args.offset
     c.args.value
-    (ways.opened c.if-memory-eeprom.false
-    c.is_working.ensures (ap not c.if-not-is_working.false))
+    (ways.opened c.if-memory-eeprom.false c.is_working.ensures (ap not c.if-not-is_working.false))
     c.find-p.ensures c.in-PortControl.is
     (ways.chosen _ _ c.control_refused.ensures c.if-control_refused.true) refl
 
@@ -391,8 +353,7 @@ returns-else-control_refused c =
     c.args.eeprom.now
     c.args.offset
     c.args.value
-    (ways.opened c.if-memory-eeprom.false
-    c.is_working.ensures (ap not c.if-not-is_working.false))
+    (ways.opened c.if-memory-eeprom.false c.is_working.ensures (ap not c.if-not-is_working.false))
     c.find-p.ensures c.in-PortControl.is
     (ways.passed_over _ _ c.control_refused.ensures c.if-control_refused.false) refl refl (rw c.write_control-c.ensures)
 
@@ -404,8 +365,7 @@ returns-in-Reserved c =
     c.args.eeprom.now
     c.args.offset
     c.args.value
-    (ways.opened c.if-memory-eeprom.false c.is_working.ensures
-    (ap not c.if-not-is_working.false)) c.find-p.ensures c.in-Reserved.is refl refl refl refl
+    (ways.opened c.if-memory-eeprom.false c.is_working.ensures (ap not c.if-not-is_working.false)) c.find-p.ensures c.in-Reserved.is refl refl refl refl
 
 pub returns-in-Auxiliary : goal.returns-in-Auxiliary
 unfolding write_checks write_effect written_at counting_written
@@ -415,8 +375,7 @@ returns-in-Auxiliary c =
     c.args.eeprom.now
     c.args.offset
     c.args.value
-    (ways.opened c.if-memory-eeprom.false c.is_working.ensures
-    (ap not c.if-not-is_working.false)) c.find-p.ensures c.in-Auxiliary.is refl refl
+    (ways.opened c.if-memory-eeprom.false c.is_working.ensures (ap not c.if-not-is_working.false)) c.find-p.ensures c.in-Auxiliary.is refl refl
 
 pub returns-then-is_busy-3 : goal.returns-then-is_busy-3
 unfolding write_checks write_effect written_at counting_written
@@ -426,8 +385,7 @@ returns-then-is_busy-3 c =
     c.args.eeprom.now
     c.args.offset
     c.args.value
-    (ways.opened c.if-memory-eeprom.false
-    c.is_working.ensures (ap not c.if-not-is_working.false))
+    (ways.opened c.if-memory-eeprom.false c.is_working.ensures (ap not c.if-not-is_working.false))
     c.find-p.ensures c.in-CalData.is
     (ways.chosen _ _ c.is_busy-in-CalData.ensures c.if-is_busy-3.true) refl
 
@@ -439,8 +397,7 @@ returns-else-is_busy-3 c =
     c.args.eeprom.now
     c.args.offset
     c.args.value
-    (ways.opened c.if-memory-eeprom.false
-    c.is_working.ensures (ap not c.if-not-is_working.false))
+    (ways.opened c.if-memory-eeprom.false c.is_working.ensures (ap not c.if-not-is_working.false))
     c.find-p.ensures c.in-CalData.is
     (ways.passed_over _ _ c.is_busy-in-CalData.ensures c.if-is_busy-3.false) refl refl (rw c.write_value-c.ensures)
 
@@ -452,8 +409,7 @@ returns-then-is_busy-4 c =
     c.args.eeprom.now
     c.args.offset
     c.args.value
-    (ways.opened c.if-memory-eeprom.false
-    c.is_working.ensures (ap not c.if-not-is_working.false))
+    (ways.opened c.if-memory-eeprom.false c.is_working.ensures (ap not c.if-not-is_working.false))
     c.find-p.ensures c.in-CalAddress.is
     (ways.chosen _ _ c.is_busy-in-CalAddress.ensures c.if-is_busy-4.true) refl
 
@@ -465,36 +421,33 @@ returns-else-is_busy-4 c =
     c.args.eeprom.now
     c.args.offset
     c.args.value
-    (ways.opened c.if-memory-eeprom.false
-    c.is_working.ensures (ap not c.if-not-is_working.false))
+    (ways.opened c.if-memory-eeprom.false c.is_working.ensures (ap not c.if-not-is_working.false))
     c.find-p.ensures c.in-CalAddress.is
     (ways.passed_over _ _ c.is_busy-in-CalAddress.ensures c.if-is_busy-4.false) refl refl (rw c.write_address-c.ensures)
 
-pub returns-then-number-ne0 : goal.returns-then-number-ne0
+pub returns-in-Some : goal.returns-in-Some
 unfolding write_checks write_effect written_at counting_written
-returns-then-number-ne0 c =
+returns-in-Some c =
     arms.write-refused c.args.board
     c.args.memory.now
     c.args.eeprom.now
     c.args.offset
     c.args.value
-    (ways.opened c.if-memory-eeprom.false
-    c.is_working.ensures (ap not c.if-not-is_working.false))
-    c.find-p.ensures c.in-CalBase14.is (sym c.control_refusal-number.ensures)
-    (ne_eqb _ 0 c.if-number-ne0.true)
+    (ways.opened c.if-memory-eeprom.false c.is_working.ensures (ap not c.if-not-is_working.false))
+    c.find-p.ensures c.in-CalBase14.is (sym c.in-Some.ensures.refused.0)
+    (ne_eqb _ 0 c.in-Some.ensures.refused.1)
 
-pub returns-else-number-ne0 : goal.returns-else-number-ne0
+pub returns-in-None : goal.returns-in-None
 unfolding write_checks write_effect written_at counting_written
-returns-else-number-ne0 c =
+returns-in-None c =
     arms.write_kept c.args.board
     c.args.memory.now
     c.args.eeprom.now
     c.args.offset
     c.args.value
-    (ways.opened c.if-memory-eeprom.false
-    c.is_working.ensures (ap not c.if-not-is_working.false))
+    (ways.opened c.if-memory-eeprom.false c.is_working.ensures (ap not c.if-not-is_working.false))
     c.find-p.ensures c.in-CalBase14.is
-    (sym c.control_refusal-number.ensures ∙ c.if-number-ne0.false) refl refl (rw c.write_control-c-else-number-ne0.ensures)
+    c.in-None.ensures.taken refl refl (rw c.write_control-c-in-None.ensures)
 
 pub returns-in-CalBase15 : goal.returns-in-CalBase15
 unfolding write_checks write_effect written_at counting_written
@@ -504,8 +457,7 @@ returns-in-CalBase15 c =
     c.args.eeprom.now
     c.args.offset
     c.args.value
-    (ways.opened c.if-memory-eeprom.false c.is_working.ensures
-    (ap not c.if-not-is_working.false)) c.find-p.ensures c.in-CalBase15.is refl refl refl
+    (ways.opened c.if-memory-eeprom.false c.is_working.ensures (ap not c.if-not-is_working.false)) c.find-p.ensures c.in-CalBase15.is refl refl refl
     (rw c.write_key-c.ensures)
 
 pub returns-in-Outside : goal.returns-in-Outside
@@ -516,5 +468,4 @@ returns-in-Outside c =
     c.args.eeprom.now
     c.args.offset
     c.args.value
-    (ways.opened c.if-memory-eeprom.false c.is_working.ensures
-    (ap not c.if-not-is_working.false)) c.find-p.ensures c.in-Outside.is refl refl
+    (ways.opened c.if-memory-eeprom.false c.is_working.ensures (ap not c.if-not-is_working.false)) c.find-p.ensures c.in-Outside.is refl refl

@@ -15,4 +15,4 @@ pub returns-in-20 : goal.returns-in-20
 returns-in-20 c = in_mode_2 _ _ _ c.in-20.is
 
 pub returns-in_default : goal.returns-in_default
-returns-in_default c = not_listed _ _ _ c.if-control-eq0.false c.in_default.in_default-own.rest.0.1 c.in_default.in_default-own.rest.1
+returns-in_default c = search not_listed

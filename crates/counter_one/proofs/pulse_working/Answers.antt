@@ -1,6 +1,5 @@
 -- `counter_one::pulse_working` meets its contract: Pulses has the counter after each way through the tests. Assumes nothing.
-use Rattle.std.proofs.Common.{◌≡◌, arith, eq-eqb, ne_eqb, ap, not}
-use Rattle.counter_element.specs.Element.{down}
+use Rattle.std.proofs.Common.{eq-eqb, ne_eqb, ap, not}
 use Rattle.counter_one.proofs.Pulses.{unprogrammed, after-load, after-rest, after_reload, after-rate, after-half, after_terminal}
 use Rattle.counter_one.proofs.pulse_working.Goals as goal
 
@@ -26,13 +25,8 @@ returns-then-c-eq1 c =
 
 pub returns-else-c-eq1 : goal.returns-else-c-eq1
 returns-else-c-eq1 c =
-    let v = c.wrapping_sub_u16-v.result in
-    let q : v
-    ≡ down
-    c.args.c.count.element =
-    omega arith in
     after-rate _ _ c.requires
-    c.if-c-eq0.false v q
+    c.if-c-eq0.false
     (eq-eqb _ _ c.if-rate.true) c.if-c-rate.false
     (ap not c.if-not-c-gate.false) c.if-c-eq1.false
 
@@ -44,11 +38,7 @@ returns-then-c-eq1-2 c =
 
 pub returns-else-c-eq1-2 : goal.returns-else-c-eq1-2
 returns-else-c-eq1-2 c =
-    let v = c.wrapping_sub_u16-v-else-c-eq1-2.result in
-    let q : v
-    ≡ down
-    c.args.c.count.element = omega arith in
     after_terminal _ _ c.requires
-    c.if-c-eq0.false v q
+    c.if-c-eq0.false
     (ne_eqb _ _ c.if-rate.false) c.if-c-rate.false
     (ap not c.if-not-c-gate.false) c.if-c-eq1-2.false

@@ -2,8 +2,8 @@
 use Rattle.counter_pulses.proofs.Parts.{in_period, no_period}
 use Rattle.counter_pulses.proofs.period_of.Goals as goal
 
-pub returns-then-rate-k : goal.returns-then-rate-k
-returns-then-rate-k c = in_period _ _ c.requires c.if-rate-k.true c.lap.ensures
+pub returns-then-is_rate-is_settled : goal.returns-then-is_rate-is_settled
+returns-then-is_rate-is_settled c = in_period _ _ c.requires (rw (c.is_rate.ensures, c.is_settled.ensures) at c.if-is_rate-is_settled.true) c.lap.ensures
 
-pub returns-else-rate-k : goal.returns-else-rate-k
-returns-else-rate-k c = no_period _ _ c.if-rate-k.false
+pub returns-else-is_rate-is_settled : goal.returns-else-is_rate-is_settled
+returns-else-is_rate-is_settled c = no_period _ _ (rw (c.is_rate.ensures, c.is_settled.ensures) at c.if-is_rate-is_settled.false)

@@ -1,13 +1,12 @@
 -- What the code does to the places is what the definitions say of the samples. Assumes nothing.
 use Rattle.std.specs.Prelude.{◌≡◌, refl, List, [], ◌∷◌, ◌++◌, Bool, true, false, ℕ, zero, suc, ◌+◌, ◌-◌, ◌%◌, ◌≤◌, ◌<◌, length, get_or, take, drop, set}
-use Rattle.std.specs.Prelude.{replicate, eqb, if◌then◌else◌}
+use Rattle.std.specs.Prelude.{replicate, eqb, if◌then◌else◌, Some, None}
 use Rattle.std.proofs.Common.{ap, sym, ◌∙◌, append_assoc, append-nil, arith, length-append, length-drop, drop_of_length-le, get_or-drop, lt-ltb, le-ltb}
 use Rattle.std.proofs.Common.{eq-eqb, ne_eqb, eqb-true}
 use Rattle.std.proofs.lemmas.List.{length-replicate, replicate-append-replicate, set_at}
 use Rattle.std.proofs.Math.ListN.{get_or-append}
 use Rattle.std.proofs.lemmas.Bool.{eqb-false}
 use Rattle.fifo.specs.declared.Fifo.{Fifo}
-use Rattle.fifo.specs.declared.OldestSample.TheVariants.{NoneHeld, Sample}
 use Rattle.fifo.specs.Samples.{oldest_of, pushed, popped}
 use Rattle.fifo.specs.Queue.{turned, filled_up, queue, layout, empty_fifo, pushed_to, place_after, popped_from, Leaves, WorkingFifo}
 use Rattle.fifo.specs.Queue.Circle.{length_turned, turned_none, turned-whole, turned_on, turned_same, set-turned}
@@ -149,13 +148,13 @@ cleared m i l h k =
     ∙ sym layout-empty
 
 -- ---- the oldest sample
-pub oldest-none : (f : Fifo) (m : List ℕ) → f.held ≡ 0 → NoneHeld ≡ oldest_of (queue f m)
+pub oldest-none : (f : Fifo) (m : List ℕ) → f.held ≡ 0 → None ≡ oldest_of (queue f m)
 unfolding queue
 oldest-none f m h = rw h
 
-pub oldest-some : (f : Fifo) (m : List ℕ) → WorkingFifo f m → (f.held ≡ 0 → ⊥) → Sample (get_or m f.place 0) ≡ oldest_of (queue f m)
+pub oldest-some : (f : Fifo) (m : List ℕ) → WorkingFifo f m → (f.held ≡ 0 → ⊥) → Some (get_or m f.place 0) ≡ oldest_of (queue f m)
 unfolding queue turned
-oldest-some f m w h = ap Sample (sym at) ∙ first f.held (turned f.place m) (omega arith) (omega (arith, length_turned f.place m, w.long))
+oldest-some f m w h = ap Some (sym at) ∙ first f.held (turned f.place m) (omega arith) (omega (arith, length_turned f.place m, w.long))
   where
     at : get_or (turned f.place m) 0 0 ≡ get_or m f.place 0
     at =
@@ -163,15 +162,15 @@ oldest-some f m w h = ap Sample (sym at) ∙ first f.held (turned f.place m) (om
         ∙ get_or-drop f.place m 0 0
         ∙ ap (λ (i : ℕ). get_or m i 0) (omega arith)
 
-    first : (n : ℕ) (l : List ℕ) → 0 < n → 0 < length l → Sample (get_or l 0 0) ≡ oldest_of (take n l)
+    first : (n : ℕ) (l : List ℕ) → 0 < n → 0 < length l → Some (get_or l 0 0) ≡ oldest_of (take n l)
     first zero l p q = absurd (omega arith)
     first (suc n) [] p q = absurd (omega arith)
     first (suc n) (x ∷ xs) p q = refl
 
 -- where a read finds none, none is held
-pub none_found : (f : Fifo) (m : List ℕ) → WorkingFifo f m → NoneHeld ≡ oldest_of (queue f m) → f.held ≡ 0
-none_found f m w e = sym (length_queue f m w) ∙ none (queue f m) e
+pub none_found : (f : Fifo) (m : List ℕ) → WorkingFifo f m → None ≡ oldest_of (queue f m) → f.held ≡ 0
+none_found f m w e = sym (length_queue f m w) ∙ of_queue (queue f m) e
   where
-    none : (q : List ℕ) → NoneHeld ≡ oldest_of q → length q ≡ 0
-    none [] h = refl
-    none (x ∷ q) h = cc
+    of_queue : (q : List ℕ) → None ≡ oldest_of q → length q ≡ 0
+    of_queue [] h = refl
+    of_queue (x ∷ q) h = cc

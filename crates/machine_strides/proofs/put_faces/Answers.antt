@@ -7,8 +7,8 @@ leap_counter-t-requires c = c.requires.timer.counter0
 
 pub returns : goal.returns
 returns c =
-    parts.faced_of c.args.counting
-    c.args.g c.args.l
+    parts.faced_of c.args.by.counting
+    c.args.by.gates c.args.l
     c.args.ticks c.pulses_0-p0.ensures
     c.leap_counter-t.ensures c.divider_after.ensures c.divider_after-2.ensures
     c.args.f1 c.args.f2

@@ -5,7 +5,7 @@ use Rattle.machine_strides.proofs.Loops as loops
 use Rattle.machine_strides.proofs.run.Goals as goal
 
 pub loop-done-init : goal.loop-done-init
-loop-done-init c = loops.begins c.args.counting c.args.g c.args.heard0 c.args.heard2 c.args.ticks c.args.l c.requires
+loop-done-init c = loops.begins c.args.by.counting c.args.by.gates c.args.heard0 c.args.heard2 c.args.ticks c.args.l c.requires
 
 pub skip_some-s-requires : goal.skip_some-s-requires
 skip_some-s-requires c = c.loop-done.invariant.works
@@ -24,8 +24,8 @@ overflow_sub-ticks-in-loop-done c = omega (arith, c.loop-done.invariant.within, 
 
 pub tick_on-t-requires : goal.tick_on-t-requires
 tick_on-t-requires c =
-    (loops.skipped_at c.args.counting
-    c.args.g c.args.heard0
+    (loops.skipped_at c.args.by.counting
+    c.args.by.gates c.args.heard0
     c.args.heard2 c.args.ticks
     c.args.l c.loop-done.done
     c.loop-done.c c.loop-done.invariant _ _
@@ -35,14 +35,14 @@ pub overflow_add-done-in-loop-done : goal.overflow_add-done-in-loop-done
 overflow_add-done-in-loop-done c =
     omega (
       arith,
-      loops.ticks_fit c.args.counting
-          c.args.g
+      loops.ticks_fit c.args.by.counting
+          c.args.by.gates
           c.args.heard0
           c.args.heard2
           c.args.ticks
           c.args.l _ _
-          (loops.skipped_at c.args.counting
-          c.args.g
+          (loops.skipped_at c.args.by.counting
+          c.args.by.gates
           c.args.heard0
           c.args.heard2
           c.args.ticks
@@ -57,14 +57,14 @@ overflow_add-done-in-loop-done c =
 
 pub returns-then-t : goal.returns-then-t
 returns-then-t c =
-    loops.heard_then c.args.counting
-    c.args.g
+    loops.heard_then c.args.by.counting
+    c.args.by.gates
     c.args.heard0
     c.args.heard2
     c.args.ticks
     c.args.l _ _
-    (loops.skipped_at c.args.counting
-    c.args.g
+    (loops.skipped_at c.args.by.counting
+    c.args.by.gates
     c.args.heard0
     c.args.heard2
     c.args.ticks
@@ -77,14 +77,14 @@ returns-then-t c =
 
 pub loop-done-smaller : goal.loop-done-smaller
 loop-done-smaller c =
-    loops.nearer c.args.counting
-    c.args.g
+    loops.nearer c.args.by.counting
+    c.args.by.gates
     c.args.heard0
     c.args.heard2
     c.args.ticks
     c.args.l _ _
-    (loops.skipped_at c.args.counting
-    c.args.g
+    (loops.skipped_at c.args.by.counting
+    c.args.by.gates
     c.args.heard0
     c.args.heard2
     c.args.ticks
@@ -101,14 +101,14 @@ loop-done-smaller c =
 
 pub loop-done-preserved : goal.loop-done-preserved
 loop-done-preserved c =
-    loops.then_on c.args.counting
-    c.args.g
+    loops.then_on c.args.by.counting
+    c.args.by.gates
     c.args.heard0
     c.args.heard2
     c.args.ticks
     c.args.l _ _
-    (loops.skipped_at c.args.counting
-    c.args.g
+    (loops.skipped_at c.args.by.counting
+    c.args.by.gates
     c.args.heard0
     c.args.heard2
     c.args.ticks
@@ -121,5 +121,5 @@ loop-done-preserved c =
 
 pub returns : goal.returns
 returns c =
-    loops.ends c.args.counting c.args.g c.args.heard0 c.args.heard2
+    loops.ends c.args.by.counting c.args.by.gates c.args.heard0 c.args.heard2
     c.args.ticks c.args.l c.loop-done.done c.loop-done.c c.loop-done.invariant c.loop-done-test.false

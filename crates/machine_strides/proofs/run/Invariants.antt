@@ -4,7 +4,7 @@ use Rattle.machine_strides.proofs.run.Given as goal
 
 abbrev pub invariant-loop-done : goal.invariant-loop-done
 invariant-loop-done l =
-    loops.At l.counting l.g l.heard0 l.heard2 l.ticks l.initial.c l.done l.c
+    loops.At l.by.counting l.by.gates l.heard0 l.heard2 l.ticks l.initial.c l.done l.c
 
 abbrev pub decreases-loop-done : goal.decreases-loop-done
 decreases-loop-done l =

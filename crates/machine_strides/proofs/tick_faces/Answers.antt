@@ -11,7 +11,7 @@ pace_of-p2-requires c = c.requires.works.timer.counter2
 
 pub loop-done-init : goal.loop-done-init
 loop-done-init c =
-    loops.faces_begin c.args.counting c.args.g
+    loops.faces_begin c.args.by.counting c.args.by.gates
     c.args.heard2 c.args.ticks c.args.l
     c.requires c.face_of-f1.ensures c.face_of-f2.ensures
 
@@ -29,8 +29,8 @@ put_faces-requires c = c.requires.works
 pub returns-then-heard2-fell2 : goal.returns-then-heard2-fell2
 returns-then-heard2-fell2 c =
     loops.faces_stop
-    c.args.counting
-    c.args.g
+    c.args.by.counting
+    c.args.by.gates
     c.args.heard2
     c.args.ticks
     c.args.l
@@ -50,8 +50,8 @@ loop-done-smaller c = omega (arith, c.loop-done-test.true)
 
 pub loop-done-preserved : goal.loop-done-preserved
 loop-done-preserved c =
-    loops.faces_go c.args.counting
-    c.args.g
+    loops.faces_go c.args.by.counting
+    c.args.by.gates
     c.args.heard2
     c.args.ticks
     c.args.l
@@ -71,8 +71,8 @@ put_faces-requires-2 c = c.requires.works
 
 pub returns : goal.returns
 returns c =
-    loops.faces_end c.args.counting
-    c.args.g c.args.heard2
+    loops.faces_end c.args.by.counting
+    c.args.by.gates c.args.heard2
     c.args.ticks c.args.l
     c.requires c.loop-done.done c.loop-done.f1 c.loop-done.f2
     c.loop-done.invariant c.loop-done-test.false c.put_faces-2.ensures

@@ -8,7 +8,7 @@ is_settled-requires c = c.requires
 
 pub tick_faces-requires : goal.tick_faces-requires
 tick_faces-requires c =
-    are_settled c.args.counting c.args.g c.args.ticks c.args.l
+    are_settled c.args.by.counting c.args.by.gates c.args.ticks c.args.l
     c.requires (sym c.is_settled.ensures ∙ c.if-is_settled.true)
 
 pub tick_each-requires : goal.tick_each-requires

@@ -5,7 +5,7 @@ use Rattle.std.proofs.Math.Facts.{to_z-of_z, sfits_widen, Fits-nat_abs}
 use Rattle.std.proofs.Math.IntN.{nat_abs}
 use Rattle.std.proofs.lemmas.Bool.{le-ltb}
 use Rattle.std.specs.Int.Signed.{mag}
-use Rattle.std.specs.Prelude.{Float}
+use Rattle.std.specs.Prelude.{Float, Some}
 use Rattle.std.specs.Float.Ieee.{of_bits, round}
 use Rattle.volts.specs.declared.Voltage.TheVariants.{Volts}
 use Rattle.volts.specs.declared.Scale.TheVariants.{Bipolar, Unipolar}
@@ -15,7 +15,7 @@ use Rattle.volts.specs.Exact.{RowExact, computed}
 use Rattle.volts.proofs.Exact.{row-exact, bipolar_volts, unipolar_volts}
 use Rattle.volts.proofs.volts.Goals as goal
 
-by-bipolar : (r : RangeRow) (x : Float) (n : ℤ) → nat_abs n < 65536 → RowExact r → scale_of r ≡ Bipolar x
+by-bipolar : (r : RangeRow) (x : Float) (n : ℤ) → nat_abs n < 65536 → RowExact r → scale_of r ≡ Some (Bipolar x)
     → AnswersVolts (Volts (computed n x 15)) (input_voltage_at r n)
 by-bipolar (valid bipolar range gain) x n N f e =
     let same : x ≡ full_scale range gain = cc in
@@ -24,7 +24,7 @@ by-bipolar (valid unipolar range gain) x n N f e = absurd (cc)
 by-bipolar (invalid p range gain) x n N f e = absurd (cc)
 by-bipolar absent x n N f e = absurd (cc)
 
-by-unipolar : (r : RangeRow) (x : Float) (code : ℤ) → nat_abs (code +ℤ pos 32768) < 65536 → RowExact r → scale_of r ≡ Unipolar x
+by-unipolar : (r : RangeRow) (x : Float) (code : ℤ) → nat_abs (code +ℤ pos 32768) < 65536 → RowExact r → scale_of r ≡ Some (Unipolar x)
     → AnswersVolts (Volts (computed (code +ℤ pos 32768) x 16)) (input_voltage_at r code)
 by-unipolar (valid bipolar range gain) x code N f e = absurd (cc)
 by-unipolar (valid unipolar range gain) x code N f e =
@@ -45,17 +45,17 @@ fits (negsuc n) h = record { sfits = omega arith }
 widened : (z : ℤ) → FitsSigned w16 z → to_z w32 (of_z w32 (to_z w16 (of_z w16 z))) ≡ z
 widened z h = rw (to_z-of_z {w = w16} h) (to_z-of_z {w = w32} (sfits_widen {w = w16} {w' = w32} tt h))
 
-pub returns-in-Bipolar : goal.returns-in-Bipolar
+pub returns-in-Some-Bipolar : goal.returns-in-Some-Bipolar
 unfolding of_bits round
-returns-in-Bipolar c =
+returns-in-Some-Bipolar c =
     rw (to_z-of_z c.ranges.code)
-    (by-bipolar (row_of c.args.range) c.in-Bipolar.full_scale c.args.code (Fits-nat_abs {w = w16} {w' = w16} tt c.ranges.code).fits
-    (row-exact c.args.range) (rw c.full_scale_of.ensures at c.in-Bipolar.is))
+    (by-bipolar (row_of c.args.range) c.in-Some-Bipolar.full_scale c.args.code (Fits-nat_abs {w = w16} {w' = w16} tt c.ranges.code).fits
+    (row-exact c.args.range) (rw (c.full_scale_of.ensures, c.in-Some-Bipolar.field-0-is) at c.in-Some-Bipolar.is))
 
-pub returns-in-Unipolar : goal.returns-in-Unipolar
+pub returns-in-Some-Unipolar : goal.returns-in-Some-Unipolar
 unfolding of_bits round
-returns-in-Unipolar c =
+returns-in-Some-Unipolar c =
     let l = lifted c.args.code c.ranges.code.sfits in
     rw (widened c.args.code c.ranges.code, to_z-of_z (fits (c.args.code +ℤ pos 32768) l))
-    (by-unipolar (row_of c.args.range) c.in-Unipolar.full_scale c.args.code l
-    (row-exact c.args.range) (rw c.full_scale_of.ensures at c.in-Unipolar.is))
+    (by-unipolar (row_of c.args.range) c.in-Some-Unipolar.full_scale c.args.code l
+    (row-exact c.args.range) (rw (c.full_scale_of.ensures, c.in-Some-Unipolar.field-0-is) at c.in-Some-Unipolar.is))

@@ -1,16 +1,7 @@
 -- `cases_board_host::spoil_counters::spoil_counter` meets its contract. Assumes nothing.
-use borrow.Author.Rules.{rules}
 use borrow.Author.Tests.{eq-eqb, ne_eqb}
 use Rattle.cases_board_host.specs.Spoils.{spoiled_counter}
 use Rattle.cases_board_host.proofs.spoil_counters.spoil_counter.Goals as goal
-
-pub one_to_load-requires : goal.one_to_load-requires
-unfolding spoiled_counter
-one_to_load-requires c = search rules
-
-pub out_low-requires : goal.out_low-requires
-unfolding spoiled_counter
-out_low-requires c = search rules
 
 pub returns-then-n-one : goal.returns-then-n-one
 unfolding spoiled_counter

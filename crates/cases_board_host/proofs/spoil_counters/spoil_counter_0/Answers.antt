@@ -1,16 +1,7 @@
 -- `cases_board_host::spoil_counters::spoil_counter_0` meets its contract. Assumes nothing.
-use borrow.Author.Rules.{rules}
 use borrow.Author.Tests.{eq-eqb, ne_eqb}
 use Rattle.cases_board_host.specs.Spoils.{spoiled_counter0}
 use Rattle.cases_board_host.proofs.spoil_counters.spoil_counter_0.Goals as goal
-
-pub mode_1-requires : goal.mode_1-requires
-unfolding spoiled_counter0
-mode_1-requires c = search rules
-
-pub spoil_counter-requires : goal.spoil_counter-requires
-unfolding spoiled_counter0
-spoil_counter-requires c = search rules
 
 pub returns-then-n-eq27 : goal.returns-then-n-eq27
 unfolding spoiled_counter0

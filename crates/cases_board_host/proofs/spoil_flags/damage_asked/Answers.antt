@@ -1,5 +1,11 @@
 -- `cases_board_host::spoil_flags::damage_asked` meets its contract. Assumes nothing.
+use Rattle.cases_board_host.proofs.Flags.{flagged}
 use Rattle.cases_board_host.proofs.spoil_flags.damage_asked.Goals as goal
 
 pub returns : goal.returns
-returns c = simp (c.damage_flag-3.ensures, c.damage_flag-2.ensures, c.damage_flag.ensures)
+returns c =
+    simp (
+      flagged c.damage_flag-3.ensures.damaged c.damage_flag-3.ensures.kept,
+      flagged c.damage_flag-2.ensures.damaged c.damage_flag-2.ensures.kept,
+      flagged c.damage_flag.ensures.damaged c.damage_flag.ensures.kept,
+    )

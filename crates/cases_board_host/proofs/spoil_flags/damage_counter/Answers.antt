@@ -1,20 +1,8 @@
 -- `cases_board_host::spoil_flags::damage_counter` meets its contract. Assumes nothing.
-use borrow.Author.Rules.{rules}
+use Rattle.cases_board_host.proofs.Flags.{flagged}
 use Rattle.cases_board_host.specs.SpoiledFlags.{damaged_counter}
 use Rattle.cases_board_host.proofs.spoil_flags.damage_counter.Goals as goal
 
-pub damage_flag-requires : goal.damage_flag-requires
-unfolding damaged_counter
-damage_flag-requires c = search rules
-
-pub damage_count-d-requires : goal.damage_count-d-requires
-unfolding damaged_counter
-damage_count-d-requires c = search rules
-
-pub damage_bus-d-requires : goal.damage_bus-d-requires
-unfolding damaged_counter
-damage_bus-d-requires c = search rules
-
 pub returns : goal.returns
 unfolding damaged_counter
-returns c = simp (c.damage_bus-d.ensures, c.damage_count-d.ensures, c.damage_flag.ensures)
+returns c = simp (c.damage_bus.ensures, c.damage_count.ensures, flagged c.damage_flag.ensures.damaged c.damage_flag.ensures.kept)

@@ -1,21 +1,22 @@
 -- `cases_board_host::spoil_flags::damage_fifo` meets its contract. Assumes nothing.
-use borrow.Author.Rules.{rules}
-use borrow.Author.Tests.{eq-eqb, ne_eqb}
+use borrow.Author.Tests.{ne_eqb}
+use Rattle.cases_board_host.proofs.Flags.{flagged}
 use Rattle.cases_board_host.specs.SpoiledFlags.{damaged_fifo}
 use Rattle.cases_board_host.proofs.spoil_flags.damage_fifo.Goals as goal
 
-pub damage_wide-requires : goal.damage_wide-requires
+pub returns-in-74 : goal.returns-in-74
 unfolding damaged_fifo
-damage_wide-requires c = search rules
+returns-in-74 c = simp (c.in-74.is, flagged c.damage_flag-ovf.ensures.damaged c.damage_flag-ovf.ensures.kept)
 
-pub returns-then-n-eq74 : goal.returns-then-n-eq74
+pub returns-in-75 : goal.returns-in-75
 unfolding damaged_fifo
-returns-then-n-eq74 c = rw (c.damage_wide.ensures, c.if-n-eq74.true)
+returns-in-75 c = simp (c.in-75.is, flagged c.damage_flag-ovf.ensures.damaged c.damage_flag-ovf.ensures.kept)
 
-pub returns-then-n-eq75 : goal.returns-then-n-eq75
+pub returns-in_default : goal.returns-in_default
 unfolding damaged_fifo
-returns-then-n-eq75 c = simp (eq-eqb _ _ c.if-n-eq75.true, ne_eqb _ _ c.if-n-eq74.false, c.damage_wide.ensures)
-
-pub returns-else-n-eq75 : goal.returns-else-n-eq75
-unfolding damaged_fifo
-returns-else-n-eq75 c = simp (ne_eqb _ _ c.if-n-eq75.false, ne_eqb _ _ c.if-n-eq74.false, c.damage_wide.ensures)
+returns-in_default c =
+    simp (
+      ne_eqb _ _ c.in_default.in_default-own.rest.1,
+      ne_eqb _ _ c.in_default.in_default-own.rest.0.1,
+      flagged c.damage_flag-ovf.ensures.damaged c.damage_flag-ovf.ensures.kept,
+    )

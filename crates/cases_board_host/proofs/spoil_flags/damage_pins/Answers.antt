@@ -1,5 +1,6 @@
 -- `cases_board_host::spoil_flags::damage_pins` meets its contract. Assumes nothing.
+use Rattle.cases_board_host.proofs.Flags.{flagged}
 use Rattle.cases_board_host.proofs.spoil_flags.damage_pins.Goals as goal
 
 pub returns : goal.returns
-returns c = simp c.damage_flag.ensures
+returns c = simp (flagged c.damage_flag.ensures.damaged c.damage_flag.ensures.kept)

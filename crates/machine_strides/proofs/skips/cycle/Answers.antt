@@ -10,7 +10,7 @@ leap_counter-t-requires-2 c = c.requires.timer.counter2
 
 pub returns : goal.returns
 returns c =
-    parts.cycled_of c.args.counting c.args.g
+    parts.cycled_of c.args.by.counting c.args.by.gates
     c.args.l c.args.ticks
     c.pulses_0-p0.ensures c.leap_counter-t.ensures c.divider_after.ensures
     c.divider_after-2.ensures c.args.n c.leap_counter-t-2.ensures

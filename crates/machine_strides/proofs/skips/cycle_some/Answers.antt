@@ -15,7 +15,7 @@ stretch-s-requires c = c.period_of-p.ensures.small
 
 pub returns-then-q2-s : goal.returns-then-q2-s
 returns-then-q2-s c =
-    parts.none c.args.counting c.args.g c.args.l
+    parts.none c.args.by.counting c.args.by.gates c.args.l
     c.args.left 0 refl
 
 pub quiet_pulses-q0-requires : goal.quiet_pulses-q0-requires
@@ -36,8 +36,8 @@ pub overflow_mul-ticks : goal.overflow_mul-ticks
 overflow_mul-ticks c =
     omega (
       arith,
-      parts.in_left c.args.counting
-          c.args.g
+      parts.in_left c.args.by.counting
+          c.args.by.gates
           c.args.l c.requires
           c.args.left c.quiet_pulses-q0.ensures
           c.reach_0.ensures (parts.at_most c.at_most-near.ensures)
@@ -52,8 +52,8 @@ cycle-requires c = c.requires
 
 pub returns : goal.returns
 returns c =
-    parts.cycles c.args.counting
-    c.args.g
+    parts.cycles c.args.by.counting
+    c.args.by.gates
     c.args.l
     c.requires
     c.args.left c.quiet_pulses-q0.ensures

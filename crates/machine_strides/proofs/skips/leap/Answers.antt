@@ -10,8 +10,8 @@ leap_counter-t-requires-2 c = c.requires.timer.counter1
 
 pub returns : goal.returns
 returns c =
-    parts.leapt_of c.args.counting
-    c.args.g c.args.l
+    parts.leapt_of c.args.by.counting
+    c.args.by.gates c.args.l
     c.args.ticks c.pulses_0-p0.ensures
     c.leap_counter-t.ensures c.divider_after.ensures c.divider_after-2.ensures
     c.pulses_1-p1.ensures c.leap_counter-t-2.ensures

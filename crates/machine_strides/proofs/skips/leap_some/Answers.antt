@@ -16,7 +16,7 @@ reach_1-requires c = c.requires.hundred
 
 pub returns-then-ticks-eq0 : goal.returns-then-ticks-eq0
 returns-then-ticks-eq0 c =
-    parts.none c.args.counting c.args.g
+    parts.none c.args.by.counting c.args.by.gates
     c.args.l c.args.left _
     c.if-ticks-eq0.true
 
@@ -25,8 +25,8 @@ leap-requires c = c.requires
 
 pub returns : goal.returns
 returns c =
-    parts.leaps c.args.counting
-    c.args.g c.args.l
+    parts.leaps c.args.by.counting
+    c.args.by.gates c.args.l
     c.requires c.args.left
     c.quiet_pulses-q0.ensures c.reach_0.ensures
     (parts.at_most c.at_most-near.ensures) c.quiet_pulses-q1.ensures

@@ -7,11 +7,11 @@ cycle_some-a-requires c = c.requires
 
 pub leap_some-b-requires : goal.leap_some-b-requires
 leap_some-b-requires c =
-    parts.still-works c.args.counting c.args.g c.args.l
+    parts.still-works c.args.by.counting c.args.by.gates c.args.l
     c.args.left _ _ c.cycle_some-a.ensures c.requires
 
 pub returns : goal.returns
 returns c =
-    parts.both c.args.counting c.args.g
+    parts.both c.args.by.counting c.args.by.gates
     c.args.l c.args.left _ _
     c.cycle_some-a.ensures _ _ c.leap_some-b.ensures

@@ -10,7 +10,7 @@ pub returns-then-byte-eq10 : goal.returns-then-byte-eq10
 returns-then-byte-eq10 c = found-newline c.loop-i.invariant c.if-byte-eq10.true
 
 pub loop-i-preserved : goal.loop-i-preserved
-loop-i-preserved c = scanned-more c.loop-i.invariant c.loop-i-test.true c.if-byte-eq10.false c.take-next.ensures
+loop-i-preserved c = scanned-more c.loop-i.invariant c.loop-i-test.true c.if-byte-eq10.false c.take-reading.ensures
 
 pub returns : goal.returns
 returns c = found-end c.loop-i.invariant c.loop-i-test.false

@@ -8,5 +8,5 @@ use Rattle.session_reading.proofs.whole.read_letter.Goals as goal
 pub returns-then-piece-from-eq32 : goal.returns-then-piece-from-eq32
 returns-then-piece-from-eq32 c = space_found c.read_begun.ensures c.if-from-piece.true c.if-piece-from-eq32.true
 
-pub returns : goal.returns
-returns c = found_as (ap Letter c.number_of.ensures) c.read_on.ensures
+pub returns-else-from-piece : goal.returns-else-from-piece
+returns-else-from-piece c = found_as (ap Letter c.number_of.ensures) c.read_on.ensures

@@ -1,4 +1,0 @@
-use Rattle.cases_collector.proofs.run_all.Given as goal
-
-abbrev pub decreases-loop-reads : goal.decreases-loop-reads
-decreases-loop-reads g l = l.reads
