@@ -2,11 +2,12 @@
 // access that the collector names is made as an event of the board, and the board's answer is handed to the collector.
 #![tactic(auto)]
 
-ghost use Rattle.std.specs.Prelude.{◌≡◌, Ok};
+ghost use Rattle.std.specs.Prelude.{◌≡◌};
 ghost use Rattle.archive_turns.specs.Turn.{event_of, brought_by, unturned, taken_by};
 ghost use Rattle.archive_turns.specs.Real.{as_struct, Left, lent_turn};
 ghost use Rattle.archive_turns.specs.Hosts.{words};
 
+use base::Refusal;
 use board::{Answer, Board, Event};
 use collector::{Access, BusAnswer, Collector, Handed};
 
@@ -19,21 +20,22 @@ pub struct Turned {
     pub handed: Handed,
 }
 
-// The event of an access.
-pub fn event_of(access: Access) -> Event
-    ensures { Ok result ≡ event_of (Ok access) }
+// The event of an access, or the number by which the collector names none.
+pub fn event_of(access: Result<Access, Refusal>) -> Result<Event, Refusal>
+    ensures { result ≡ event_of access }
 {
     match access {
-        Access::WriteByte { offset, value } => Event::WriteByte {
+        Ok(Access::WriteByte { offset, value }) => Ok(Event::WriteByte {
             offset: offset as u32,
             value,
-        },
-        Access::ReadByte { offset } => Event::ReadByte {
+        }),
+        Ok(Access::ReadByte { offset }) => Ok(Event::ReadByte {
             offset: offset as u32,
-        },
-        Access::ReadWord { offset } => Event::ReadWord {
+        }),
+        Ok(Access::ReadWord { offset }) => Ok(Event::ReadWord {
             offset: offset as u32,
-        },
+        }),
+        Err(refusal) => Err(refusal),
     }
 }
 
@@ -80,9 +82,9 @@ fn hand_over(collector: Collector, board: Board, answer: Answer) -> Turned
 pub fn turn(collector: Collector, board: Board, memory: &mut [u16], eeprom: &mut [u8]) -> Turned
     ensures { Left (lent_turn collector board memory.old eeprom.old) result memory.new eeprom.new }
 {
-    match collector::access_of(collector) {
-        Ok(access) => {
-            let outcome = board::step(board, memory, eeprom, event_of(access));
+    match event_of(collector::access_of(collector)) {
+        Ok(event) => {
+            let outcome = board::step(board, memory, eeprom, event);
             hand_over(collector, outcome.board, outcome.answer)
         }
         Err(refusal) => without_access(collector, board, refusal.number),

@@ -5,7 +5,7 @@ use cases_board_host::spoil;
 use std::{fmt, io};
 use tally::Tally;
 
-#[derive(Drop)]
+#[derive(Clone, Copy)]
 pub struct BoardBench {
     pub board: Board,
     pub memory: [u16; 513],
@@ -105,7 +105,10 @@ impl BoardBench {
         *tally = tally::note(*tally, *board, memory, eeprom, event);
         let outcome = board::step(*board, memory, eeprom, event);
         *board = outcome.board;
-        print!(rt; "{}", Shown(outcome.answer))
+        match outcome.answer {
+            Answer::Done => Ok(()),
+            answer => print!(rt; "{}", Shown(answer)),
+        }
     }
 
     // The spoils 00 to 04 are of the stores: how much of them is lent.

@@ -21,6 +21,20 @@ fn select_of(n: u32) -> Select {
     }
 }
 
+// A timer after so many CLK pulses at counter N. With the counter known, and with a loop within a loop, the compiler makes the calls
+// one with the loop: without, a pulse takes five times as long (docs/LOOK-BACK.md).
+fn clocked<const N: u32>(mut timer: Timer, gates: Gates, count: u32) -> Timer {
+    for _ in 0..count / 256 {
+        for _ in 0..256 {
+            timer = timer::clock_if(timer, select_of(N), gates, true);
+        }
+    }
+    for _ in 0..count % 256 {
+        timer = timer::clock_if(timer, select_of(N), gates, true);
+    }
+    timer
+}
+
 fn level_of(high: bool) -> char {
     if high { 'H' } else { 'L' }
 }
@@ -69,9 +83,11 @@ impl TimerBench {
     }
 
     fn pulses(&mut self, n: u32, count: u32) {
-        for _ in 0..count {
-            self.timer = timer::clock_if(self.timer, select_of(n), self.gates, true);
-        }
+        self.timer = match n {
+            0 => clocked::<0>(self.timer, self.gates, count),
+            1 => clocked::<1>(self.timer, self.gates, count),
+            _ => clocked::<2>(self.timer, self.gates, count),
+        };
     }
 
     fn move_gates(&mut self, value: u32) {

@@ -3,6 +3,7 @@
 // stand in the crates below by what they do; here are the theorems about them.
 #![tactic(auto)]
 
+pub use base::Refusal;
 pub use collector_answers::BusAnswer;
 pub use collector_phases::{Access, Collector, access_of, is_fit};
 pub use collector_records::start;

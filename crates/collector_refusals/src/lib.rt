@@ -4,11 +4,12 @@
 ghost use Rattle.std.specs.Prelude.{◌≡◌, Ok, [], ◌∷◌};
 ghost use Rattle.base.specs.Checks.{◌refuses◌, refusal};
 ghost use Rattle.collector_phases.specs.declared.Access.TheVariants.{ReadByte};
-ghost use Rattle.collector_phases.specs.Phases.{reads};
+ghost use Rattle.collector_phases.specs.Phases.{is_none, reads};
 ghost use Rattle.collector_answers.specs.Answers.{is_nothing};
 ghost use Rattle.collector_answers.specs.declared.BusAnswer.TheVariants.{Number};
 ghost use Rattle.collector_refusals.specs.Refusals.{last_poll, read_answer_checks};
 
+use base::Refusal;
 use collector_answers::BusAnswer;
 use collector_phases::{Access, Collector};
 
@@ -53,24 +54,26 @@ fn word_refusal(a: BusAnswer) -> u8
     }
 }
 
-// The number by which the answer to an access is refused, or 0.
-pub fn refusal_of(x: Access, c: Collector, a: BusAnswer) -> u8
-    ensures { result ≡ refusal (read_answer_checks (Ok x) c a) }
+// The number by which the answer to an access of a fit record is refused, or 0.
+pub fn refusal_of(x: Result<Access, Refusal>, c: Collector, a: BusAnswer) -> u8
+    ensures { result ≡ refusal (is_none x refuses 15 ∷ read_answer_checks x c a) }
 {
     match x {
-        Access::WriteByte { .. } => 0,
-        Access::ReadByte { offset } => byte_refusal(offset, c, a),
-        Access::ReadWord { .. } => word_refusal(a),
+        Ok(Access::WriteByte { .. }) => 0,
+        Ok(Access::ReadByte { offset }) => byte_refusal(offset, c, a),
+        Ok(Access::ReadWord { .. }) => word_refusal(a),
+        Err(_) => 15,
     }
 }
 
 // Whether the access is a poll.
-pub fn is_poll(x: Access) -> bool
-    ensures { result ≡ reads 8 (Ok x) }
+pub fn is_poll(x: Result<Access, Refusal>) -> bool
+    ensures { result ≡ reads 8 x }
 {
     match x {
-        Access::WriteByte { .. } => false,
-        Access::ReadByte { offset } => offset == 8,
-        Access::ReadWord { .. } => false,
+        Ok(Access::WriteByte { .. }) => false,
+        Ok(Access::ReadByte { offset }) => offset == 8,
+        Ok(Access::ReadWord { .. }) => false,
+        Err(_) => false,
     }
 }

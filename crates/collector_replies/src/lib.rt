@@ -1,13 +1,14 @@
 // What an answer leads to: specs/Reply.antt. The bounds that some functions require hold of every fit record.
 #![tactic(auto)]
 
-ghost use Rattle.std.specs.Prelude.{◌≡◌, ◌<◌, true, Ok};
+ghost use Rattle.std.specs.Prelude.{◌≡◌, ◌<◌, true};
 ghost use Rattle.collector_phases.specs.Fit.{fit};
 ghost use Rattle.collector_phases.specs.Phases.{phase_number};
 ghost use Rattle.collector_records.specs.Records.{entered};
 ghost use Rattle.collector_steps.specs.Reads.{reports};
 ghost use Rattle.collector_replies.specs.Reply.{after_write, after_number, answered, staying, replied_in, replied};
 
+use base::Refusal;
 use collector_answers::BusAnswer;
 use collector_phases::{Access, Collector, Phase};
 use collector_steps::{Handed, Taken};
@@ -61,9 +62,9 @@ fn advance(p: Phase, c: Collector, a: BusAnswer) -> Taken
 }
 
 // What stays after a refusal: stuck at the last poll, else unchanged.
-fn stay(n: u8, x: Access, c: Collector) -> Collector
+fn stay(n: u8, x: Result<Access, Refusal>, c: Collector) -> Collector
     requires { c.polls < 65535 }
-    ensures { result ≡ staying n (Ok x) c }
+    ensures { result ≡ staying n x c }
 {
     if (n == 15) & collector_refusals::is_poll(x) {
         collector_records::count(c, Phase::Stuck as u8)
@@ -72,15 +73,13 @@ fn stay(n: u8, x: Access, c: Collector) -> Collector
     }
 }
 
-// The answer to a fit record, which names no access once it is stuck: 15.
+// The answer to a fit record.
 #[tactic(auto, using(crate::specs::Joined::room))]
 fn reply(p: Phase, c: Collector, a: BusAnswer) -> Taken
     requires { fit c ≡ true }
     ensures { result ≡ replied_in p c a }
 {
-    let Ok(x) = collector_phases::access_in(p, c.settings) else {
-        return collector_steps::report(c, Handed::Refused(15));
-    };
+    let x = collector_phases::access_in(p, c.settings);
     let n = collector_refusals::refusal_of(x, c, a);
     if n == 0 {
         advance(p, c, a)

@@ -3,9 +3,10 @@ use mathlib.Core.Path.{◌≡◌, refl, sym, ap, ◌∙◌}
 use mathlib.Core.List.{List, [], ◌∷◌, ◌++◌}
 use mathlib.Core.Bool.{Bool, true, false, ◌&&◌}
 use Prim.Native.Nat.{ℕ, zero, suc, ◌+◌, ◌*◌, ◌-◌, ◌≤◌, ◌<◌}
+use native.Mathlib.Numerals.{add-one}
 use native.Mathlib.Omega.{arith}
-use lib.ListN.{length, take, drop, length-drop, take-append-drop}
-use lib.Seq.{length-take-le, take_all, take-take, take-add, drop-drop, drop_at, drop-append-le, drop-append-add}
+use lib.ListN.{length, get_or, take, drop, length-drop, take-append-drop}
+use lib.Seq.{length-take-le, take-suc, take_all, take-take, take-add, get_or-drop, drop-drop, drop_at, drop-append-le, drop-append-add}
 use lib.Bits.{bit_or, bit_and, or_add_and, and_comm, and_le_l}
 use lib.Dec.{eqb, ltb}
 use Rattle.std.specs.List.{fold}
@@ -43,6 +44,26 @@ zeros_append (x ∷ l) k = rw (zeros_append l k) (sym (and_assoc (eqb x 0) (zero
 
 zeros-at : (i : ℕ) (l : List ℕ) → zeros l ≡ zeros (take i l) && zeros (drop i l)
 zeros-at i l = ap zeros (sym (take-append-drop i l)) ∙ zeros_append (take i l) (drop i l)
+
+-- one place more is passed
+pub zeros-more : (m : List ℕ) (at i bits : ℕ) → at + i < length m → eqb bits 0 ≡ zeros (take i (drop at m))
+    → eqb (bit_or bits (get_or m (at + i) 0)) 0 ≡ zeros (take (i + 1) (drop at m))
+unfolding zeros
+zeros-more m at i bits h e =
+    let l : i < length (drop at m) = rw (length-drop at m) (omega arith) in
+    rw (
+      add-one i,
+      take-suc (drop at m) i 0 l,
+      get_or-drop at m i 0,
+      zeros_append (take i (drop at m)) (get_or m (at + i) 0 ∷ []),
+      joined bits (get_or m (at + i) 0),
+      e,
+    )
+    (ap (λ (b : Bool). zeros (take i (drop at m)) && b) (sym (last (eqb (get_or m (at + i) 0) 0))))
+  where
+    last : (b : Bool) → b && true ≡ b
+    last true = refl
+    last false = refl
 
 -- ---- two blocks of n places that cover a list, the first at its start and the other at its end
 overlap : (a b d x y : Bool) → a && b ≡ y && d → d ≡ x && b → a && d ≡ a && b

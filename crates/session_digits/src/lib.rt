@@ -9,9 +9,10 @@ ghost use Rattle.session_digits.specs.Digits.{digit_of, hex_of, hex_digit};
 pub fn digit_of(byte: u8) -> Option<u8>
     ensures { result ≡ digit_of byte }
 {
-    match byte {
-        b'0'..=b'9' => Some(byte - b'0'),
-        _ => None,
+    if byte.is_ascii_digit() {
+        Some(byte - b'0')
+    } else {
+        None
     }
 }
 

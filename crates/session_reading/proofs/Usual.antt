@@ -7,7 +7,7 @@ use native.Mathlib.Omega.{arith}
 use borrow.Author.Tests.{eqb-true, leb-true, eq-eqb, ne_eqb, le-leb}
 use lib.Dec.{eqb, leb}
 use lib.ListN.{length, get_or}
-use Rattle.std.specs.Prelude.{None, Some, if◌then◌else◌}
+use Rattle.std.specs.Prelude.{Option, None, Some, unwrap_or, if◌then◌else◌}
 use Rattle.std.proofs.lemmas.Option.{none-some, same_Some}
 use Rattle.base.specs.Laws.{never, both}
 use Rattle.session_digits.specs.Digits.{digit_of, hex_of}
@@ -70,6 +70,17 @@ digit_byte b k {d} h e q = none-some d (sym e ∙ sym (ap digit_of q) ∙ h)
 not_digit : (k : ℕ) → leb 48 k && leb k 57 ≡ false → digit_of k ≡ None
 unfolding digit_of
 not_digit k e = rw e
+
+-- the digit that a byte is, where 10 stands for none
+pub digit_some : {o : Option ℕ} {d : ℕ} (b : ℕ) → o ≡ digit_of b → d ≡ unwrap_or o 10 → d ≤ 9 → digit_of b ≡ Some d
+digit_some {o} {d} b e f h = sym e ∙ by o f
+  where
+    by : (o : Option ℕ) → d ≡ unwrap_or o 10 → o ≡ Some d
+    by (Some x) k = ap Some (sym k)
+    by None k = absurd (omega (arith, k))
+
+pub below_ten : {d : ℕ} → d < 10 → d ≤ 9
+below_ten h = omega arith
 
 first_taken_lem : (number : Number) (b : ℕ) {d : ℕ} → digit_of b ≡ Some d → so_far number d ≡ taken (Begun number) b
 unfolding taken so_far

@@ -89,9 +89,10 @@ fn more_digits(first: u8, piece: &[u8], from: usize) -> Numeral
     }
     let mut n = first as u32;
     for i in from..piece.len() {
-        let Some(digit) = session_digits::digit_of(piece[i]) else {
+        let digit = session_digits::digit_of(piece[i]).unwrap_or(10);
+        if digit > 9 {
             return Numeral { n: n as u16, at: i };
-        };
+        }
         let m = n * 10 + (digit as u32);
         if m > 65535 {
             return Numeral { n: n as u16, at: i };
@@ -110,7 +111,8 @@ fn read_begun(letter: u8, piece: &[u8], from: usize) -> Line
     ensures { Found (Begun (number_after letter)) piece.now from result }
 {
     if from < piece.len() {
-        if let Some(digit) = session_digits::digit_of(piece[from]) {
+        let digit = session_digits::digit_of(piece[from]).unwrap_or(10);
+        if digit < 10 {
             let numeral = more_digits(digit, piece, from + 1);
             return read_end(letter, numeral.n, piece, numeral.at);
         }

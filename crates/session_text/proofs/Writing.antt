@@ -1,18 +1,16 @@
--- Text that is written piece after piece, what `copy` writes, and the loop of `spell`. Assumes nothing.
+-- Text that is written piece after piece, and the loops of `copy` and `spell`. Assumes nothing.
 use mathlib.Core.Path.{◌≡◌, refl, ap, sym, ◌∙◌, subst}
 use mathlib.Core.List.{List, [], ◌∷◌, ◌++◌, append_assoc}
 use Prim.Native.Nat.{ℕ, zero, suc, ◌+◌, ◌-◌, ◌*◌, ◌/◌, ◌%◌, ◌^◌, ◌≤◌, ◌<◌}
 use native.Mathlib.Nat.{pow-succ'}
 use native.Mathlib.Omega.{arith}
+use native.Mathlib.Numerals.{add-one}
 use borrow.Author.Tests.{ne_eqb}
 use mathlib.Core.Bool.{Bool, true, false}
 use lib.Dec.{eqb}
 use Rattle.std.specs.Prelude.{if◌then◌else◌}
-use lib.ListN.{length, set, take, drop, length-append, length-set, length-drop, drop_of_length-le}
-use lib.Seq.{sets, take_all, length-sets}
-use borrow.Rule.Slice.PartMut.{put_mid}
-use Rattle.std.proofs.lemmas.Slice.{put_mid-paste}
-use Rattle.std.proofs.lemmas.List.Edits.{paste_all, sets-eq}
+use lib.ListN.{length, set, take, drop, get_or, length-append, length-set, length-drop, drop_of_length-le}
+use lib.Seq.{sets, take-suc, take_all, length-take-le, length-sets}
 use Rattle.session_text.specs.declared.Decimal.{Decimal}
 use Rattle.session_text.specs.Text.{Wrote, Spells, digits_of, decimal_text}
 
@@ -51,15 +49,30 @@ unfolding decimal_text
 decimal_length n =
     rw (length-append (digits_of 19 (n / 10)) ((48 + n % 10) ∷ [])) (let h = digits_length 19 (n / 10) in omega arith)
 
--- ---- what `copy` writes: the text in place of a part of `out`
-pub copied : (text out : List ℕ) {part : List ℕ} {at k : ℕ} → at + length text ≤ length out → k ≡ length text → part ≡ text
-    → Wrote text out at (put_mid at k out part) (at + length text)
-copied text out {part} {at} {k} h n e =
+-- ---- the loop of `copy`: i bytes of the text stand in `out`
+pub record Copied (text out₀ : List ℕ) (at : ℕ) (out : List ℕ) (i : ℕ) : Type 0 where
+  pub index : i ≤ length text
+  pub bytes : out ≡ sets out₀ at (take i text)
+  pub same : length out ≡ length out₀
+
+pub copied_none : (text out : List ℕ) (at : ℕ) → Copied text out at out 0
+copied_none text out at = record { index = omega arith; bytes = refl; same = refl }
+
+pub copied_more : {text out₀ out : List ℕ} {at i : ℕ} → Copied text out₀ at out i → i < length text
+    → Copied text out₀ at (set out (at + i) (get_or text i 0)) (i + 1)
+copied_more {text} {out₀} {out} {at} {i} f h =
+    let more : take (i + 1) text ≡ take i text ++ (get_or text i 0 ∷ []) = rw add-one (take-suc text i 0 h) in
+    let n : length (take i text) ≡ i = length-take-le i text (omega arith) in
+    let joined : set (sets out₀ at (take i text)) (at + i) (get_or text i 0) ≡ sets out₀ at (take i text ++ (get_or text i 0 ∷ [])) =
+    rw n at (sets_append (take i text) (get_or text i 0 ∷ []) out₀ at) in
     record {
-      next = refl;
-      bytes = put_mid-paste at k out part text (length text) e (sym n) refl ∙ paste_all out at text (length text) refl
-          ∙ sym (sets-eq text out at h ∙ append_assoc (take at out) text (drop (at + length text) out));
+      index = omega arith;
+      bytes = rw (f.bytes, more) joined;
+      same = length-set out (at + i) (get_or text i 0) ∙ f.same;
     }
+
+pub copied_all : {text out₀ out : List ℕ} {at i : ℕ} → Copied text out₀ at out i → length text ≤ i → Wrote text out₀ at out (at + length text)
+copied_all {text} {out₀} {at = at} {i = i} f h = record { next = refl; bytes = f.bytes ∙ ap (sets out₀ at) (take_all i text h) }
 
 -- ---- the loop of `spell`: what is left of the number has still to stand at `from` and before it
 pub drop_set : (l : List ℕ) (i x : ℕ) → i < length l → drop i (set l i x) ≡ x ∷ drop (suc i) l

@@ -17,7 +17,9 @@ pub fn copy(text: &[u8], out: &mut [u8], at: usize) -> usize
     ensures { Wrote text.now out.old at out.new result }
 {
     let n = text.len();
-    out[at..at + n].copy_from_slice(text);
+    for i in 0..n {
+        out[at + i] = text[i];
+    }
     at + n
 }
 

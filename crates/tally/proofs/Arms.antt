@@ -182,6 +182,14 @@ module _ (b : Board) (m e : List ℕ) where
   unfolding counts_at
   stopped event k h = rw (stops b m e event k h)
 
+  pub wrong : (event : Event) → wrong_lengths m e ≡ true → no_counts ≡ counts_at (state_of b m e) event
+  unfolding counts_at checks
+  wrong event h = rw h
+
+  pub broken : (event : Event) {w : Bool} → wrong_lengths m e ≡ false → w ≡ is_working_board b m → not w ≡ true → no_counts ≡ counts_at (state_of b m e) event
+  unfolding counts_at checks
+  broken event {w} l k h = let f : is_working_board b m ≡ false = sym k ∙ not_true w h in rw (l, f)
+
   pub counted : (event : Event) {r : Tally} → Opened b m e → r ≡ taken b event → r ≡ counts_at (state_of b m e) event
   unfolding counts_at checks
   counted event o h = rw (o.long, o.working) h

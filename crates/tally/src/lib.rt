@@ -121,7 +121,10 @@ fn of_working(b: Board, event: Event) -> Tally
 pub fn counts(board: Board, memory: &[u16], eeprom: &[u8], event: Event) -> Tally
     ensures { result ≡ counts_at (state_of board memory.now eeprom.now) event }
 {
-    if board_refusal::check(board, memory, eeprom).is_err() {
+    if (memory.len() != 512) | (eeprom.len() != 128) {
+        return none();
+    }
+    if !board::is_working(board, memory) {
         return none();
     }
     of_working(board, event)
