@@ -22,7 +22,7 @@ fn select_of(n: u32) -> Select {
 }
 
 // A timer after so many CLK pulses at counter N. With the counter known, and with a loop within a loop, the compiler makes the calls
-// one with the loop: without, a pulse takes five times as long (docs/LOOK-BACK.md).
+// one with the loop: without, a pulse takes four times as long (docs/LOOK-BACK.md).
 fn clocked<const N: u32>(mut timer: Timer, gates: Gates, count: u32) -> Timer {
     for _ in 0..count / 256 {
         for _ in 0..256 {
